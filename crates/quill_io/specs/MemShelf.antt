@@ -22,7 +22,7 @@ files_of files = map (λ file. (string_bytes file.0, file.1.items)) files
 -- the bytes of the first file of this name
 abbrev pub bytes_at : List File → List ℕ → Option (List ℕ)
 bytes_at [] name = None
-bytes_at (file ∷ files) name = if bytes_eq file.0 name then Some file.1 else bytes_at files name
+bytes_at (file ∷ files) name = if bytes_eq name file.0 then Some file.1 else bytes_at files name
 
 -- no two files have one name
 abbrev pub HasDistinctNames : List File → Type 0

@@ -6,6 +6,7 @@ ghost use Rattle.quill_io.specs.Shelf.{KnownAs, KeepsLimit, is_failed};
 
 use crate::calls::one_more;
 use crate::shelf::{FetchFault, Fetched, Shelf};
+use std::alloc::AllocError;
 use std::fs::{File, OpenFile};
 use std::io;
 use std::io::{ErrorKind, Read};
@@ -100,8 +101,7 @@ fn expected_len<F: OpenFile>(file: &F) -> usize {
     }
 }
 
-// Reads to the end, or to one byte more than `most`. Where the file is as long as is expected, one read
-// takes it whole.
+// Reads to the end, or to one byte more than `most`.
 fn read_whole<R: Read>(
     reader: &mut R,
     expected: usize,
@@ -111,14 +111,14 @@ fn read_whole<R: Read>(
     requires { into.old.items ≡ [] }
     ensures read { OnOk result (KnownAs (R.remaining reader.old) into.new.items) }
     ensures fits { OnOk result (length into.new.items ≤ most) }
+    ensures bounded { length into.new.items ≤ most + 1 }
     ensures limit { IfErr result (λ fault. (limit : ℕ) → fault ≡ FetchFault.TooLong limit
         → (limit ≡ most) × IfSome (R.remaining reader.old) (λ bytes. most < length bytes)) }
 {
     let limit = most as usize + 1;
     let mut filled = 0;
-    let mut wanted = FIRST_READ.max(expected.saturating_add(1));
     while filled < limit {
-        if filled == into.len() && into.resize(wanted.min(limit), 0).is_err() {
+        if make_room(into, filled, expected, limit).is_err() {
             return Err(FetchFault::NoMemory);
         }
         match read_at(reader, into, filled) {
@@ -129,20 +129,47 @@ fn read_whole<R: Read>(
             Ok(count) => filled += count,
             Err(_) => return Err(FetchFault::Failed),
         }
-        wanted = wanted.saturating_mul(2);
     }
     Err(FetchFault::TooLong(most))
 }
 
+// Makes a full vector longer, by zeros: twice as long, or one byte longer than the file is expected to
+// be, so that one read takes it whole and the next finds its end.
+fn make_room(
+    into: &mut Vec<u8>,
+    filled: usize,
+    expected: usize,
+    limit: usize,
+) -> Result<(), AllocError>
+    requires filled { filled ≤ length into.old.items }
+    requires bounded { length into.old.items ≤ limit }
+    requires below { filled < limit }
+    ensures room { OnOk result (filled < length into.new.items) }
+    ensures bounded { length into.new.items ≤ limit }
+    ensures front { take filled into.new.items ≡ take filled into.old.items }
+{
+    if filled < into.len() {
+        return Ok(());
+    }
+    let wanted = filled
+        .saturating_mul(2)
+        .max(expected.saturating_add(1))
+        .max(FIRST_READ);
+    into.resize(wanted.min(limit), 0)
+}
+
 // One read into the bytes from `at` on.
-fn read_at<R: Read>(reader: &mut R, into: &mut [u8], at: usize) -> io::Result<usize>
-    requires { at < length into.old }
-    ensures front { take at into.new ≡ take at into.old }
-    ensures within { IfOk result (λ count. at + count ≤ length into.new) }
+fn read_at<R: Read>(reader: &mut R, into: &mut Vec<u8>, at: usize) -> io::Result<usize>
+    requires { at < length into.old.items }
+    ensures len { length into.new.items ≡ length into.old.items }
+    ensures front { take at into.new.items ≡ take at into.old.items }
+    ensures within { IfOk result (λ count. at + count ≤ length into.new.items) }
     ensures bytes { MatchResult result
-        (λ count. Consumes (R.remaining reader.old) (R.remaining reader.new) (take count (drop at into.new)))
+        (λ count. Consumes (R.remaining reader.old) (R.remaining reader.new)
+            (take count (drop at into.new.items)))
         (λ _. Keeps (R.remaining reader.old) (R.remaining reader.new)) }
     ensures end { IfOk result (λ count. count ≡ 0 → IsAtEnd (R.remaining reader.new)) }
 {
-    reader.read(&mut into[at..])
+    let bytes = into.as_mut_slice();
+    reader.read(&mut bytes[at..])
 }

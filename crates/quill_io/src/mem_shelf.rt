@@ -34,10 +34,8 @@ pub fn has_distinct_names(files: &[(String, Vec<u8>)]) -> bool
     ensures { IsTrue result ↔ HasDistinctNames (files_of files.now) }
 {
     for (place, (name, _)) in files.iter().enumerate() {
-        for (other, _) in &files[place + 1..] {
-            if name.as_str() == other.as_str() {
-                return false;
-            }
+        if find(&files[place + 1..], name.as_str()).is_some() {
+            return false;
         }
     }
     true
@@ -111,7 +109,7 @@ fn find<'a>(files: &'a [(String, Vec<u8>)], name: &str) -> Option<&'a [u8]>
     ensures { option_copied result ≡ bytes_at (files_of files.now) name.now }
 {
     for (other, bytes) in files {
-        if other.as_str() == name {
+        if name == other.as_str() {
             return Some(bytes);
         }
     }

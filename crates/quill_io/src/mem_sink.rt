@@ -2,6 +2,7 @@
 ghost use Rattle.std.specs.Prelude.{◌≡◌, ℕ, ◌+◌, ◌-◌, ◌≤◌, ◌↔◌, [], ◌++◌, length, take, vec_len, vec_capacity, Contains, Some, IsOk, IfOk, OnOk, OnErr, is_ok, if◌then◌else◌};
 ghost use Rattle.quill_io.specs.Faults.{next_count};
 ghost use Rattle.quill_io.specs.MemSink.{Tray};
+ghost use Rattle.quill_io.specs.Sink.{Puts};
 
 use crate::calls::{is_listed, one_more};
 use crate::sink::{Sink, SinkFault};
@@ -70,6 +71,7 @@ impl Sink for MemSink {
     ghost faults = { λ sink. sink.faults };
 
     fn put(&mut self, bytes: &[u8]) -> Result<(), SinkFault>
+        ensures told { Puts (Some self.old.held) (Some self.new.held) bytes.now result }
         ensures keeps_room { self.new.room ≡ self.old.room }
         ensures keeps_list { self.new.failing ≡ self.old.failing }
 
