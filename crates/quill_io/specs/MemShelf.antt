@@ -9,7 +9,7 @@ abbrev pub File : Type 0
 File = List ℕ × List ℕ
 
 -- what a shelf in memory holds, which of its calls are to fail, and how many calls and faults there were
-pub record Stock : Type 0 where
+pub record ShelfState : Type 0 where
   pub files : List File
   pub failing : List ℕ
   pub calls : ℕ

@@ -1,5 +1,5 @@
 -- What a fetch from a shelf answers.
-use Rattle.std.specs.Prelude.{◌≡◌, ℕ, ◌<◌, ◌≤◌, List, [], length, Option, None, Some, Result, Ok, Err, ⊤, IfSome, IsSomeAnd, Bool, true, false}
+use Rattle.std.specs.Prelude.{◌≡◌, ℕ, ◌<◌, ◌≤◌, List, [], length, Option, None, Some, Result, Ok, Err, ⊤, IsSomeAnd, Bool, true, false}
 use Rattle.quill_io.specs.declared.shelf.Fetched.{Fetched}
 use Rattle.quill_io.specs.declared.shelf.Fetched.TheVariants.{Bytes, Absent}
 use Rattle.quill_io.specs.declared.shelf.FetchFault.{FetchFault}
@@ -39,7 +39,3 @@ is_failed (Ok fetched) = false
 is_failed (Err Failed) = true
 is_failed (Err (TooLong limit)) = false
 is_failed (Err NoMemory) = false
-
--- these are the known bytes
-abbrev pub KnownAs : Option (List ℕ) → List ℕ → Type 0
-KnownAs known bytes = IfSome known (λ xs. xs ≡ bytes)

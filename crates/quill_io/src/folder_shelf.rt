@@ -2,7 +2,7 @@
 ghost use Rattle.std.specs.Prelude.{◌≡◌, ℕ, ◌+◌, ◌<◌, ◌≤◌, [], length, take, drop, None, IfSome, IfOk, OnOk, IfErr, MatchResult, if◌then◌else◌};
 ghost use Rattle.std.specs.Io.KnownBytes.{Keeps, Consumes, IsAtEnd};
 ghost use Rattle.quill_io.specs.Faults.{next_count};
-ghost use Rattle.quill_io.specs.Shelf.{KnownAs, KeepsLimit, is_failed};
+ghost use Rattle.quill_io.specs.Shelf.{KeepsLimit, is_failed};
 
 use crate::calls::one_more;
 use crate::shelf::{FetchFault, Fetched, Shelf};
@@ -63,12 +63,7 @@ impl<R: Files> Shelf for FolderShelf<R> {
 
     /// Opens the file and reads it to its end. Where there is no such file it is `Absent`, and any other
     /// error of opening or reading is a fault.
-    fn fetch(
-        &mut self,
-        name: &str,
-        most: u32,
-        into: &mut Vec<u8>,
-    ) -> Result<Fetched, FetchFault>
+    fn fetch(&mut self, name: &str, most: u32, into: &mut Vec<u8>) -> Result<Fetched, FetchFault>
         ensures limit { KeepsLimit most result into.new.items }
         ensures counted { self.new ≡ (if is_failed result then next_count self.old else self.old) }
     {
@@ -109,7 +104,7 @@ fn read_whole<R: Read>(
     into: &mut Vec<u8>,
 ) -> Result<(), FetchFault>
     requires { into.old.items ≡ [] }
-    ensures read { OnOk result (KnownAs (R.remaining reader.old) into.new.items) }
+    ensures read { OnOk result (IfSome (R.remaining reader.old) (λ bytes. into.new.items ≡ bytes)) }
     ensures fits { OnOk result (length into.new.items ≤ most) }
     ensures bounded { length into.new.items ≤ most + 1 }
     ensures limit { IfErr result (λ fault. (limit : ℕ) → fault ≡ FetchFault.TooLong limit
@@ -166,10 +161,88 @@ fn read_at<R: Read>(reader: &mut R, into: &mut Vec<u8>, at: usize) -> io::Result
     ensures within { IfOk result (λ count. at + count ≤ length into.new.items) }
     ensures bytes { MatchResult result
         (λ count. Consumes (R.remaining reader.old) (R.remaining reader.new)
-            (take count (drop at into.new.items)))
+        (take count (drop at into.new.items)))
         (λ _. Keeps (R.remaining reader.old) (R.remaining reader.new)) }
     ensures end { IfOk result (λ count. count ≡ 0 → IsAtEnd (R.remaining reader.new)) }
 {
     let bytes = into.as_mut_slice();
     reader.read(&mut bytes[at..])
+}
+
+#[cfg(test)]
+mod tests {
+    use super::*;
+    use std::fs;
+    use std::test::Fail;
+
+    // A reader that gives three bytes at most at a time, and ends or fails after the last.
+    #[derive(Drop)]
+    struct Trickle<'a> {
+        left: &'a [u8],
+        fails_at_end: bool,
+    }
+
+    impl Read for Trickle<'_> {
+        fn read(&mut self, buf: &mut [u8]) -> io::Result<usize> {
+            let count = buf.len().min(3).min(self.left.len());
+            if count == 0 && self.fails_at_end {
+                return Err(io::Error::from(ErrorKind::Other));
+            }
+            buf[..count].copy_from_slice(&self.left[..count]);
+            self.left = &self.left[count..];
+            Ok(count)
+        }
+    }
+
+    #[test]
+    fn answers_by_the_files_of_the_system(rt: HostRuntime) -> Result<(), Fail> {
+        let name = "quill_io_folder_shelf.tmp";
+        let mut bytes = Vec::new(rt.alloc());
+        for number in 0..20000u32 {
+            bytes.push((number % 251) as u8)?;
+        }
+        fs::write(&rt, name, bytes.as_slice())?;
+        let none: &[u8] = &[];
+        let rows = [
+            (name, 20000, Ok(Fetched::Bytes), bytes.as_slice(), 0),
+            (name, 19999, Err(FetchFault::TooLong(19999)), none, 0),
+            ("quill_io_missing.tmp", 9, Ok(Fetched::Absent), none, 0),
+            ("", 9, Ok(Fetched::Absent), none, 0),
+            (".", 9, Err(FetchFault::Failed), none, 1),
+            (name, u32::MAX, Ok(Fetched::Bytes), bytes.as_slice(), 1),
+            ("a\0b", 9, Err(FetchFault::Failed), none, 2),
+        ];
+        let mut shelf = FolderShelf::new(&rt);
+        let mut into = Vec::new(rt.alloc());
+        for (name, most, answer, came, faults) in rows {
+            assert_eq!(rt;
+                shelf.fetch(name, most, &mut into),
+                answer,
+                "{name:?} of at most {most}"
+            );
+            assert_eq!(rt; into.as_slice(), came, "{name:?} of at most {most}");
+            assert_eq!(rt; shelf.faults(), faults, "{name:?} of at most {most}");
+        }
+        fs::remove_file(&rt, name)?;
+        Ok(())
+    }
+
+    #[test]
+    fn tells_a_failed_read_from_the_end(rt: HostRuntime) -> Result<(), Fail> {
+        let rows = [
+            (false, 7, Ok(())),
+            (false, 6, Err(FetchFault::TooLong(6))),
+            (true, 7, Err(FetchFault::Failed)),
+            (true, 6, Err(FetchFault::TooLong(6))),
+        ];
+        for (fails_at_end, most, answer) in rows {
+            let mut reader = Trickle {
+                left: b"written",
+                fails_at_end,
+            };
+            let mut into = Vec::new(rt.alloc());
+            assert_eq!(rt; read_whole(&mut reader, 0, most, &mut into), answer);
+        }
+        Ok(())
+    }
 }

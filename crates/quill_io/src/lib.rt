@@ -6,6 +6,7 @@
 //! that comes only where the count rose in a call is an answer about the object, and not about the code.
 #![tactic(auto)]
 
+mod calls;
 pub mod folder_shelf;
 pub mod mem_shelf;
 pub mod mem_sink;
@@ -14,10 +15,8 @@ pub mod sink;
 pub mod std_sink;
 
 pub use folder_shelf::FolderShelf;
-pub use mem_shelf::MemShelf;
+pub use mem_shelf::{MemShelf, has_distinct_names};
 pub use mem_sink::MemSink;
 pub use shelf::{FetchFault, Fetched, Shelf};
 pub use sink::{Sink, SinkFault};
 pub use std_sink::StdSink;
-
-mod calls;

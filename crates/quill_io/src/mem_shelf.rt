@@ -2,7 +2,7 @@
 ghost use Rattle.std.specs.Prelude.{◌≡◌, ℕ, ◌≤◌, ◌↔◌, [], map, Contains, IsTrue, Some, IsErrOf, option_copied, if◌then◌else◌};
 ghost use Rattle.quill_io.specs.Faults.{next_count};
 ghost use Rattle.quill_io.specs.Shelf.{Fetches, KeepsLimit, FailsByFault, is_failed};
-ghost use Rattle.quill_io.specs.MemShelf.{Stock, HasDistinctNames, bytes_at, files_of};
+ghost use Rattle.quill_io.specs.MemShelf.{HasDistinctNames, bytes_at, files_of};
 
 use crate::calls::{is_listed, one_more};
 use crate::shelf::{FetchFault, Fetched, Shelf};
@@ -20,13 +20,16 @@ pub struct MemShelf {
 }
 
 impl Model for MemShelf {
-    ghost use Rattle.quill_io.specs.MemShelf.{Stock, files_of};
+    ghost use Rattle.quill_io.specs.MemShelf.{ShelfState, files_of};
 
-    ghost Value = { Stock };
+    ghost Value = { ShelfState };
 
     ghost view = { λ shelf. record {
-        files = files_of shelf.files.items; failing = shelf.failing.items;
-        calls = shelf.calls; faults = shelf.faults } };
+      files = files_of shelf.files.items;
+      failing = shelf.failing.items;
+      calls = shelf.calls;
+      faults = shelf.faults;
+    } };
 }
 
 /// Whether no two of the files have one name.
@@ -68,12 +71,7 @@ impl Shelf for MemShelf {
 
     ghost faults = { λ shelf. shelf.faults };
 
-    fn fetch(
-        &mut self,
-        name: &str,
-        most: u32,
-        into: &mut Vec<u8>,
-    ) -> Result<Fetched, FetchFault>
+    fn fetch(&mut self, name: &str, most: u32, into: &mut Vec<u8>) -> Result<Fetched, FetchFault>
         ensures keeps_files { self.new.files ≡ self.old.files }
         ensures keeps_list { self.new.failing ≡ self.old.failing }
         ensures told { Fetches (bytes_at self.old.files) name.now most result into.new.items }
@@ -114,4 +112,70 @@ fn find<'a>(files: &'a [(String, Vec<u8>)], name: &str) -> Option<&'a [u8]>
         }
     }
     None
+}
+
+#[cfg(test)]
+mod tests {
+    use super::*;
+    use std::test::Fail;
+
+    fn fetch_from<S: Shelf>(
+        shelf: &mut S,
+        name: &str,
+        most: u32,
+        into: &mut Vec<u8>,
+    ) -> Result<Fetched, FetchFault> {
+        shelf.fetch(name, most, into)
+    }
+
+    #[test]
+    fn answers_by_name_length_and_listed_call(rt: HostRuntime) -> Result<(), Fail> {
+        let alloc = rt.alloc();
+        let mut files = Vec::new(alloc);
+        files.push((String::from_str(alloc, "a")?, [1, 2, 3].to_vec(alloc)?))?;
+        files.push((String::from_str(alloc, "")?, [4].to_vec(alloc)?))?;
+        files.push((String::from_str(alloc, "empty")?, Vec::new(alloc)))?;
+        assert!(rt; has_distinct_names(&files));
+        let mut shelf = MemShelf::new(files, [4, 9].to_vec(alloc)?);
+        let rows: [(&str, u32, Result<Fetched, FetchFault>, &[u8]); 10] = [
+            ("a", 3, Ok(Fetched::Bytes), &[1, 2, 3]),
+            ("a", 2, Err(FetchFault::TooLong(2)), &[]),
+            ("b", 3, Ok(Fetched::Absent), &[]),
+            ("a", 3, Err(FetchFault::Failed), &[]),
+            ("a", u32::MAX, Ok(Fetched::Bytes), &[1, 2, 3]),
+            ("", 1, Ok(Fetched::Bytes), &[4]),
+            ("", 0, Err(FetchFault::TooLong(0)), &[]),
+            ("empty", 0, Ok(Fetched::Bytes), &[]),
+            ("b", 0, Err(FetchFault::Failed), &[]),
+            ("b", 0, Ok(Fetched::Absent), &[]),
+        ];
+        let mut into = [9].to_vec(alloc)?;
+        for (name, most, answer, bytes) in rows {
+            let fetched = fetch_from(&mut shelf, name, most, &mut into);
+            assert_eq!(rt; fetched, answer, "{name:?} of at most {most}");
+            assert_eq!(rt; into.as_slice(), bytes, "{name:?} of at most {most}");
+        }
+        assert_eq!(rt; shelf.faults(), 2);
+        Ok(())
+    }
+
+    #[test]
+    fn tells_whether_a_name_stands_twice(rt: HostRuntime) -> Result<(), Fail> {
+        let alloc = rt.alloc();
+        let rows: [(&[&str], bool); 5] = [
+            (&[], true),
+            (&["a"], true),
+            (&["a", "A", "aa", ""], true),
+            (&["a", "b", "a"], false),
+            (&["c", "", "b", ""], false),
+        ];
+        for (names, distinct) in rows {
+            let mut files = Vec::new(alloc);
+            for name in names {
+                files.push((String::from_str(alloc, name)?, Vec::new(alloc)))?;
+            }
+            assert_eq!(rt; has_distinct_names(&files), distinct, "{names:?}");
+        }
+        Ok(())
+    }
 }

@@ -1,7 +1,6 @@
 //! A sink in memory.
 ghost use Rattle.std.specs.Prelude.{◌≡◌, ℕ, ◌+◌, ◌-◌, ◌≤◌, ◌↔◌, [], ◌++◌, length, take, vec_len, vec_capacity, Contains, Some, IsOk, IfOk, OnOk, OnErr, is_ok, if◌then◌else◌};
 ghost use Rattle.quill_io.specs.Faults.{next_count};
-ghost use Rattle.quill_io.specs.MemSink.{Tray};
 ghost use Rattle.quill_io.specs.Sink.{Puts};
 
 use crate::calls::{is_listed, one_more};
@@ -23,13 +22,17 @@ pub struct MemSink {
 
 impl Model for MemSink {
     ghost use Rattle.std.specs.Prelude.{◌≤◌, vec_len, vec_capacity};
-    ghost use Rattle.quill_io.specs.MemSink.{Tray};
+    ghost use Rattle.quill_io.specs.MemSink.{SinkState};
 
-    ghost Value = { Tray };
+    ghost Value = { SinkState };
 
     ghost view = { λ sink. record {
-        held = sink.held.items; room = sink.room; failing = sink.failing.items;
-        calls = sink.calls; faults = sink.faults } };
+      held = sink.held.items;
+      room = sink.room;
+      failing = sink.failing.items;
+      calls = sink.calls;
+      faults = sink.faults;
+    } };
 
     ghost invariant = { λ sink. (vec_len sink.held ≤ sink.room) × (sink.room ≤ vec_capacity sink.held) };
 }
@@ -38,7 +41,12 @@ impl MemSink {
     /// A sink with room for `room` bytes, whose calls of the numbers in `failing` fail, counted from 1.
     pub fn new(alloc: Global, room: usize, failing: Vec<u32>) -> Result<Self, AllocError>
         ensures { IfOk result (λ sink. sink ≡ record {
-            held = []; room = room; failing = failing.items; calls = 0; faults = 0 }) }
+          held = [];
+          room = room;
+          failing = failing.items;
+          calls = 0;
+          faults = 0;
+        }) }
     {
         Ok(MemSink {
             held: Vec::with_capacity(alloc, room)?,
@@ -71,17 +79,19 @@ impl Sink for MemSink {
     ghost faults = { λ sink. sink.faults };
 
     fn put(&mut self, bytes: &[u8]) -> Result<(), SinkFault>
+        // The old bytes stay, and the piece or a prefix of it follows them.
         ensures told { Puts (Some self.old.held) (Some self.new.held) bytes.now result }
         ensures keeps_room { self.new.room ≡ self.old.room }
         ensures keeps_list { self.new.failing ≡ self.old.failing }
 
         // It fails exactly at the calls that are listed, and where the piece passes the room.
         ensures calls { self.new.calls ≡ next_count self.old.calls }
-        ensures taken { IsOk result ↔ (¬ Contains self.old.failing self.new.calls
+        ensures succeeds { IsOk result ↔ (¬ Contains self.old.failing self.new.calls
             × (length self.old.held + length bytes.now ≤ self.old.room)) }
         ensures counted { self.new.faults ≡
             (if is_ok result then self.old.faults else next_count self.old.faults) }
 
+        // It takes the whole piece, or nothing at a listed call, or else what there is room for.
         ensures whole { OnOk result (self.new.held ≡ self.old.held ++ bytes.now) }
         ensures none { Contains self.old.failing self.new.calls → self.new.held ≡ self.old.held }
         ensures cut { OnErr result (¬ Contains self.old.failing self.new.calls
@@ -99,6 +109,42 @@ impl Sink for MemSink {
             return Err(SinkFault::Failed);
         }
         self.held.extend_from_slice(bytes).unwrap();
+        Ok(())
+    }
+}
+
+#[cfg(test)]
+mod tests {
+    use super::*;
+    use std::test::Fail;
+
+    fn put_to<K: Sink>(sink: &mut K, bytes: &[u8]) -> Result<(), SinkFault> {
+        sink.put(bytes)
+    }
+
+    #[test]
+    fn takes_pieces_up_to_its_room_and_fails_at_listed_calls(rt: HostRuntime) -> Result<(), Fail> {
+        let alloc = rt.alloc();
+        let mut sink = MemSink::new(alloc, 6, [2].to_vec(alloc)?)?;
+        let rows: [(&str, Result<(), SinkFault>, &str, u64); 8] = [
+            ("ab", Ok(()), "ab", 0),
+            ("c", Err(SinkFault::Failed), "ab", 1),
+            ("cd", Ok(()), "abcd", 1),
+            ("", Ok(()), "abcd", 1),
+            ("efg", Err(SinkFault::Failed), "abcdef", 2),
+            ("", Ok(()), "abcdef", 2),
+            ("g", Err(SinkFault::Failed), "abcdef", 3),
+            ("", Ok(()), "abcdef", 3),
+        ];
+        for (piece, answer, held, faults) in rows {
+            assert_eq!(rt;
+                put_to(&mut sink, piece.as_bytes()),
+                answer,
+                "{piece:?} before {held:?}"
+            );
+            assert_eq!(rt; sink.held(), held.as_bytes());
+            assert_eq!(rt; sink.faults(), faults, "{piece:?} before {held:?}");
+        }
         Ok(())
     }
 }

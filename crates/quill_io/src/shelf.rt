@@ -38,12 +38,7 @@ pub trait Shelf {
     ghost faults: { Self → ℕ };
 
     /// Fetches the file `name` of at most `most` bytes, and puts its bytes in the place of what `into` had.
-    fn fetch(
-        &mut self,
-        name: &str,
-        most: u32,
-        into: &mut Vec<u8>,
-    ) -> Result<Fetched, FetchFault>
+    fn fetch(&mut self, name: &str, most: u32, into: &mut Vec<u8>) -> Result<Fetched, FetchFault>
         ensures keeps_files { files self.new ≡ files self.old }
         ensures told { IfSome (files self.old)
             (λ at. Fetches at name.now most result into.new.items) }

@@ -71,3 +71,80 @@ fn write_whole<W: Write>(writer: &mut W, bytes: &[u8]) -> Result<(), SinkFault>
         Err(_) => Err(SinkFault::Failed),
     }
 }
+
+#[cfg(test)]
+mod tests {
+    use super::*;
+    use std::fs::File;
+    use std::test::Fail;
+    use std::{fs, io};
+
+    // A writer that takes three bytes at most of each piece, and has room for a few in all.
+    struct Narrow<'a> {
+        held: &'a mut Vec<u8>,
+        room: usize,
+        fails_when_full: bool,
+    }
+
+    impl Drop for Narrow<'_> {
+        fn drop(self) {
+            let Narrow {
+                held: _,
+                room: _,
+                fails_when_full: _,
+            } = self;
+        }
+    }
+
+    impl Write for Narrow<'_> {
+        fn write(&mut self, buf: &[u8]) -> io::Result<usize> {
+            let count = buf.len().min(3).min(self.room);
+            if count == 0 && self.fails_when_full {
+                return Err(io::Error::from(io::ErrorKind::StorageFull));
+            }
+            self.held.extend_from_slice(&buf[..count])?;
+            self.room -= count;
+            Ok(count)
+        }
+
+        fn flush(&mut self) -> io::Result<()> {
+            Ok(())
+        }
+    }
+
+    #[test]
+    fn writes_pieces_whole_and_counts_faults(rt: HostRuntime) -> Result<(), Fail> {
+        for fails_when_full in [false, true] {
+            let mut held = Vec::new(rt.alloc());
+            let mut sink = StdSink::new(Narrow {
+                held: &mut held,
+                room: 10,
+                fails_when_full,
+            });
+            assert_eq!(rt; sink.put(b"abcdefgh"), Ok(()));
+            assert_eq!(rt; sink.put(b""), Ok(()));
+            assert_eq!(rt; sink.faults(), 0);
+            assert_eq!(rt; sink.put(b"ijkl"), Err(SinkFault::Failed));
+            assert_eq!(rt; sink.faults(), 1);
+            assert_eq!(rt; sink.put(b""), Ok(()));
+            drop(sink);
+            assert_eq!(rt; held.as_slice(), b"abcdefghij".as_slice());
+        }
+        Ok(())
+    }
+
+    #[test]
+    fn writes_to_a_file_of_the_system(rt: HostRuntime) -> Result<(), Fail> {
+        let name = "quill_io_std_sink.tmp";
+        let mut sink = StdSink::new(File::create(&rt, name)?);
+        assert_eq!(rt; sink.put(b"one "), Ok(()));
+        assert_eq!(rt; sink.put(b"two"), Ok(()));
+        drop(sink);
+        assert_eq!(rt; fs::read(&rt, name)?.as_slice(), b"one two".as_slice());
+        let mut sink = StdSink::new(File::open(&rt, name)?);
+        assert_eq!(rt; sink.put(b"three"), Err(SinkFault::Failed));
+        assert_eq!(rt; sink.faults(), 1);
+        fs::remove_file(&rt, name)?;
+        Ok(())
+    }
+}
