@@ -18,7 +18,8 @@ const FIRST_READ: usize = 8192;
 
 /// The system's files. It does not tell what they hold.
 ///
-/// A name is a path as it is written, seen from the current directory.
+/// A name is a path as it is written, seen from the current directory. A fetch keeps at most one byte more
+/// than its limit in memory.
 #[derive(Drop)]
 pub struct FolderShelf<R> {
     files: R,
@@ -39,6 +40,13 @@ impl<R: Files> FolderShelf<R> {
         FolderShelf { files, faults: 0 }
     }
 
+    /// How many calls of `fetch` have failed.
+    pub fn faults(&self) -> u64
+        ensures { result ≡ self.now }
+    {
+        self.faults
+    }
+
     // Counts a fault, and gives the answer that names it.
     fn fault(&mut self) -> FetchFault
         ensures answer { result ≡ FetchFault.Failed }
@@ -46,13 +54,6 @@ impl<R: Files> FolderShelf<R> {
     {
         self.faults = one_more(self.faults);
         FetchFault::Failed
-    }
-
-    /// How many calls of `fetch` have failed.
-    pub fn faults(&self) -> u64
-        ensures { result ≡ self.now }
-    {
-        self.faults
     }
 }
 

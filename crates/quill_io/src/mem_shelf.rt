@@ -32,7 +32,7 @@ impl Model for MemShelf {
     } };
 }
 
-/// Whether no two of the files have one name.
+/// Whether no two of the files have one name. It compares each name with those after it.
 pub fn has_distinct_names(files: &[(String, Vec<u8>)]) -> bool
     ensures { IsTrue result ↔ HasDistinctNames (files_of files.now) }
 {
@@ -102,7 +102,7 @@ impl Shelf for MemShelf {
     }
 }
 
-/// The bytes of the file of this name.
+// The bytes of the file of this name.
 fn find<'a>(files: &'a [(String, Vec<u8>)], name: &str) -> Option<&'a [u8]>
     ensures { option_copied result ≡ bytes_at (files_of files.now) name.now }
 {

@@ -14,7 +14,7 @@ pub enum Fetched {
 }
 
 /// Why a fetch brought nothing.
-#[derive(Debug, Drop, PartialEq, Eq, Error)]
+#[derive(Clone, Copy, Debug, PartialEq, Eq, Error)]
 pub enum FetchFault {
     /// The shelf could not be read.
     #[error("the shelf could not be read")]

@@ -6,7 +6,7 @@ ghost use Rattle.quill_io.specs.Sink.{Puts};
 use thiserror::Error;
 
 /// Why a put did not take its whole piece.
-#[derive(Debug, Drop, PartialEq, Eq, Error)]
+#[derive(Clone, Copy, Debug, PartialEq, Eq, Error)]
 pub enum SinkFault {
     /// The sink could not be written to.
     #[error("the sink could not be written to")]
