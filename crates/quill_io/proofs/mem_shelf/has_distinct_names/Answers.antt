@@ -1,5 +1,5 @@
 -- One name after another is looked up among those after it.
-use Rattle.std.proofs.Common.{◌≡◌, ℕ, ◌+◌, List, [], drop, length, refl, sym, ap, ◌∙◌, subst, drop_of_length-le}
+use Rattle.std.proofs.Common.{◌+◌, refl, sym, ap, ◌∙◌, subst, drop_of_length-le}
 use Rattle.std.proofs.lemmas.List.{take_rest}
 use Rattle.std.specs.Prelude.{string_bytes}
 use Rattle.quill_io.specs.MemShelf.{HasDistinctNames, files_of}
