@@ -8,7 +8,7 @@ use crate::sink::{Sink, SinkFault};
 use std::io::Write;
 use std::marker::Model;
 
-/// A sink over a writer of std, such as standard output. It does not tell what the writer holds.
+/// A sink over a writer of std, such as standard output. As a sink it tells nothing of the bytes held.
 #[derive(Drop)]
 pub struct StdSink<W> {
     writer: W,
@@ -16,22 +16,24 @@ pub struct StdSink<W> {
 }
 
 impl<W> Model for StdSink<W> {
-    ghost Value = { ℕ };
+    ghost use Rattle.quill_io.specs.StdSink.{WriterState};
 
-    ghost view = { λ sink. sink.faults };
+    ghost Value = { WriterState W };
+
+    ghost view = { λ sink. record { writer = sink.writer; faults = sink.faults } };
 }
 
 impl<W: Write> StdSink<W> {
     /// A sink that puts to this writer.
     pub fn new(writer: W) -> Self
-        ensures { result ≡ 0 }
+        ensures { result ≡ record { writer = writer; faults = 0 } }
     {
         StdSink { writer, faults: 0 }
     }
 
     /// How many calls of `put` have failed.
     pub fn faults(&self) -> u64
-        ensures { result ≡ self.now }
+        ensures { result ≡ self.now.faults }
     {
         self.faults
     }
@@ -40,10 +42,13 @@ impl<W: Write> StdSink<W> {
 impl<W: Write> Sink for StdSink<W> {
     ghost held = { λ _. None };
 
-    ghost faults = { λ sink. sink };
+    ghost faults = { λ sink. sink.faults };
 
     fn put(&mut self, bytes: &[u8]) -> Result<(), SinkFault>
-        ensures counted { self.new ≡ (if is_ok result then self.old else next_count self.old) }
+        // What the writer tells of the bytes that it holds.
+        ensures written { Puts (W.contents self.old.writer) (W.contents self.new.writer) bytes.now result }
+        ensures counted { self.new.faults ≡
+            (if is_ok result then self.old.faults else next_count self.old.faults) }
     {
         if write_whole(&mut self.writer, bytes).is_err() {
             self.faults = one_more(self.faults);
