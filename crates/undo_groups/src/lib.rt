@@ -1,0 +1,16 @@
+//! Groups of changes that are all or nothing, with undo and redo, over any target.
+#![tactic(auto)]
+
+mod apply;
+mod fault;
+mod group;
+mod groups;
+mod invertible;
+mod ready;
+mod way;
+
+pub use fault::{ExpandFault, GroupFault, RedoFault, UndoFault};
+pub use groups::Groups;
+pub use invertible::Invertible;
+pub use ready::Ready;
+pub use way::{MOST_GROUPS, Way};
