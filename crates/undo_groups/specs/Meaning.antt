@@ -1,5 +1,5 @@
 -- What primitives mean on the values of a target, one after another.
-use Rattle.std.specs.Prelude.{List, [], ◌∷◌, fold, reverse}
+use Rattle.std.specs.Prelude.{List, [], ◌∷◌, reverse}
 
 -- What the primitives of a target mean on its values.
 pub record Meaning (V P : Type 0) : Type 1 where

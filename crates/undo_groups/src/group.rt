@@ -1,7 +1,8 @@
 //! A group of primitives, shared between a list and the step that applies it.
-ghost use Rattle.std.specs.Prelude.{◌≡◌, IfOk};
+ghost use Rattle.std.specs.Prelude.{◌≡◌, List, [], ◌∷◌, ◌++◌, IfOk, MatchOption};
 
 use std::alloc::{AllocError, Global};
+use std::collections::VecDeque;
 use std::marker::Model;
 use std::sync::Arc;
 
@@ -46,4 +47,11 @@ impl<P> Group<P> {
     {
         self.prims.as_slice()
     }
+}
+
+// The group that stands last.
+pub fn last_of<P>(groups: &VecDeque<Group<P>>) -> Option<&Group<P>>
+    ensures { MatchOption result (groups.now.items ≡ []) (λ last. (rest : List (List P)) × (groups.now.items ≡ rest ++ last.now ∷ [])) }
+{
+    groups.back()
 }

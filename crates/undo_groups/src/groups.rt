@@ -6,7 +6,7 @@ ghost use Rattle.undo_groups.specs.Past.{AreOf, Steps, past_of};
 ghost use Rattle.undo_groups.specs.Step.{IsReadyFor, Applies};
 
 use crate::fault::{GroupFault, RedoFault, UndoFault};
-use crate::group::Group;
+use crate::group::{Group, last_of};
 use crate::invertible::Invertible;
 use crate::ready::Ready;
 use crate::way::{MOST_GROUPS, Way};
@@ -18,12 +18,12 @@ use std::marker::Model;
 #[derive(Drop)]
 pub struct Groups<T: Invertible> {
     earlier: VecDeque<Group<T::Prim>>,
-    undone: Vec<Group<T::Prim>>,
+    undone: VecDeque<Group<T::Prim>>,
     alloc: Global,
 }
 
 impl<T: Invertible> Model for Groups<T> {
-    ghost use Rattle.std.specs.Prelude.{◌+◌, ◌≤◌, length, vec_capacity};
+    ghost use Rattle.std.specs.Prelude.{◌+◌, length};
     ghost use Rattle.std.specs.VecDeque.{deque_capacity};
     ghost use Rattle.undo_groups.specs.Lists.{Lists, HasRoom};
 
@@ -31,7 +31,7 @@ impl<T: Invertible> Model for Groups<T> {
 
     ghost view = { λ g. record { earlier = g.earlier.items; undone = g.undone.items } };
 
-    ghost invariant = { λ g. HasRoom (length g.earlier.items + length g.undone.items) (deque_capacity g.earlier) (vec_capacity g.undone) };
+    ghost invariant = { λ g. HasRoom (length g.earlier.items + length g.undone.items) (deque_capacity g.earlier) (deque_capacity g.undone) };
 }
 
 impl<T: Invertible> Groups<T> {
@@ -41,7 +41,7 @@ impl<T: Invertible> Groups<T> {
     {
         Ok(Groups {
             earlier: VecDeque::with_capacity(alloc, MOST_GROUPS)?,
-            undone: Vec::with_capacity(alloc, MOST_GROUPS)?,
+            undone: VecDeque::with_capacity(alloc, MOST_GROUPS)?,
             alloc,
         })
     }
@@ -127,7 +127,7 @@ impl<T: Invertible> Groups<T> {
         ensures way { IfOk result (λ ready. ready.way ≡ Way.Undo) }
         ensures ready { IfOk result (λ ready. IsReadyFor T.after T.value T.meaning target.now self.now ready) }
     {
-        match self.earlier.back() {
+        match last_of(&self.earlier) {
             Some(group) => Ok(Ready::of_kept(self.alloc, Way::Undo, target, group)?),
             None => Err(UndoFault::NothingToUndo),
         }
@@ -141,7 +141,7 @@ impl<T: Invertible> Groups<T> {
         ensures way { IfOk result (λ ready. ready.way ≡ Way.Redo) }
         ensures ready { IfOk result (λ ready. IsReadyFor T.after T.value T.meaning target.now self.now ready) }
     {
-        match self.undone.last() {
+        match last_of(&self.undone) {
             Some(group) => Ok(Ready::of_kept(self.alloc, Way::Redo, target, group)?),
             None => Err(RedoFault::NothingToRedo),
         }
@@ -158,6 +158,13 @@ impl<T: Invertible> Groups<T> {
     {
         let (way, changed, kept) = ready.into_parts();
         *target = changed;
+        self.keep(way, kept);
+    }
+
+    // Moves the groups as a step of this way does.
+    fn keep(&mut self, way: Way, kept: Group<T::Prim>)
+        ensures { (prims : List T.Prim) → IsNext way prims self.old → Moves way prims kept self.old self.new }
+    {
         match way {
             Way::Run => self.append(kept),
             Way::Undo => self.put_undone(kept),
@@ -167,7 +174,7 @@ impl<T: Invertible> Groups<T> {
 
     // Appends a new group to the earlier ones, drops the oldest of 257, and empties the undone list.
     fn append(&mut self, kept: Group<T::Prim>)
-        ensures { (prims : List T.Prim) → Moves Way.Run prims kept self.old self.new }
+        ensures { (prims : List T.Prim) → IsNext Way.Run prims self.old → Moves Way.Run prims kept self.old self.new }
     {
         self.undone.clear();
         if self.earlier.len() == MOST_GROUPS {
@@ -181,7 +188,7 @@ impl<T: Invertible> Groups<T> {
         ensures { (prims : List T.Prim) → IsNext Way.Undo prims self.old → Moves Way.Undo prims kept self.old self.new }
     {
         if let Some(_group) = self.earlier.pop_back() {
-            self.undone.push_reserved(kept);
+            self.undone.push_back_reserved(kept);
         }
     }
 
@@ -189,7 +196,7 @@ impl<T: Invertible> Groups<T> {
     fn put_earlier(&mut self, kept: Group<T::Prim>)
         ensures { (prims : List T.Prim) → IsNext Way.Redo prims self.old → Moves Way.Redo prims kept self.old self.new }
     {
-        if let Some(_group) = self.undone.pop() {
+        if let Some(_group) = self.undone.pop_back() {
             self.earlier.push_back_reserved(kept);
         }
     }

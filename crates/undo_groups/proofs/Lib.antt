@@ -1,0 +1,4 @@
+mod Expansions
+mod Inverses
+mod Pasts
+mod Splits
