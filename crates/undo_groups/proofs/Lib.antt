@@ -1,4 +1,5 @@
 mod Expansions
 mod Inverses
 mod Pasts
+mod Plays
 mod Splits

@@ -37,7 +37,8 @@ impl<T: Invertible> Model for Groups<T> {
 impl<T: Invertible> Groups<T> {
     /// No groups, with the memory to keep 256 of them in each list.
     pub fn new(alloc: Global) -> Result<Groups<T>, AllocError>
-        ensures { IfOk result (λ groups. (groups.earlier ≡ []) × (groups.undone ≡ [])) }
+        ensures empty { IfOk result (λ groups. (groups.earlier ≡ []) × (groups.undone ≡ [])) }
+        ensures of_any { IfOk result (λ groups. (v : T.Value) → AreOf T.meaning v groups) }
     {
         Ok(Groups {
             earlier: VecDeque::with_capacity(alloc, MOST_GROUPS)?,

@@ -7,10 +7,12 @@ mod group;
 mod groups;
 mod invertible;
 mod ready;
+mod playback;
 mod way;
 
 pub use fault::{ExpandFault, GroupFault, RedoFault, UndoFault};
 pub use groups::Groups;
 pub use invertible::Invertible;
 pub use ready::Ready;
+pub use playback::{Replayed, Reply, Step, replay};
 pub use way::{MOST_GROUPS, Way};

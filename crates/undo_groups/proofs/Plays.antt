@@ -1,0 +1,15 @@
+-- A run of steps goes on by one.
+use Rattle.std.proofs.Common.{List, [], ◌∷◌, ◌++◌, Result, subst, refl}
+use Rattle.undo_groups.specs.declared.playback.Step.{Step}
+use Rattle.undo_groups.specs.declared.playback.Reply.{Reply}
+use Rattle.undo_groups.specs.Replay.{Scene, Takes, Plays}
+
+module _ {S O P W V : Type 0} (expansion : S → O → Result (List P) W) (after : S → P → S) (value : S → V) where
+  pub Plays-more : (steps : List (Step O)) (replies : List (Reply W)) (old mid new : Scene S V) (step : Step O) (reply : Reply W)
+      → Plays expansion after value steps replies old mid → Takes expansion after value step reply mid new
+      → Plays expansion after value (steps ++ step ∷ []) (replies ++ reply ∷ []) old new
+  Plays-more [] [] old mid new step reply plays takes = (new, subst (λ s. Takes expansion after value step reply s new) plays takes, refl)
+  Plays-more (first ∷ steps) (answer ∷ replies) old mid new step reply plays takes =
+      (plays.0, plays.1, Plays-more steps replies plays.0 mid new step reply plays.2 takes)
+  Plays-more [] (answer ∷ replies) old mid new step reply plays takes = absurd plays
+  Plays-more (first ∷ steps) [] old mid new step reply plays takes = absurd plays
