@@ -2,4 +2,5 @@ mod Expansions
 mod Inverses
 mod Pasts
 mod Plays
+mod Restoring
 mod Splits

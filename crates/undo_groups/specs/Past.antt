@@ -1,6 +1,7 @@
 -- The past of a target: its present value, the earlier ones and the undone ones; and the past that two lists
 -- of groups stand for.
-use Rattle.std.specs.Prelude.{◌≡◌, List, [], ◌∷◌, ◌++◌, fold}
+use Rattle.std.specs.Prelude.{◌≡◌, ℕ, List, [], ◌∷◌, ◌++◌, fold}
+use Rattle.std.proofs.Common.{zero, suc}
 use Rattle.undo_groups.specs.declared.way.Way.{Way}
 use Rattle.undo_groups.specs.declared.way.Way.TheVariants.{Run, Undo, Redo}
 use Rattle.undo_groups.specs.declared.way.TheConstants.{MOST_GROUPS}
@@ -53,3 +54,8 @@ pub record AreOf {V P : Type 0} (m : Meaning V P) (v : V) (lists : Lists P) : Ty
 -- The past that the lists stand for at a target with value v.
 abbrev pub past_of : {V P : Type 0} → Meaning V P → V → Lists P → Past V
 past_of m v lists = record { present = v; earlier = values_behind m v lists.earlier; undone = values_behind m v lists.undone }
+
+-- A step taken n times.
+abbrev pub Repeated : {V : Type 0} → ℕ → (Past V → Past V → Type 0) → Past V → Past V → Type 0
+Repeated zero step old new = new ≡ old
+Repeated {V} (suc n) step old new = (next : Past V) × step old next × Repeated n step next new

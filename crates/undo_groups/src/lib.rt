@@ -14,5 +14,5 @@ pub use fault::{ExpandFault, GroupFault, RedoFault, UndoFault};
 pub use groups::Groups;
 pub use invertible::Invertible;
 pub use ready::Ready;
-pub use playback::{Replayed, Reply, Step, replay};
+pub use playback::{Replayed, Reply, Step, replay, undos_restore};
 pub use way::{MOST_GROUPS, Way};

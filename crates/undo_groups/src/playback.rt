@@ -1,11 +1,12 @@
 //! Whole runs of groups, undos and redos.
-ghost use Rattle.std.specs.Prelude.{◌≡◌, IfOk, All};
-ghost use Rattle.undo_groups.specs.Past.{AreOf};
+ghost use Rattle.std.specs.Prelude.{◌≡◌, ℕ, ◌≤◌, IfOk, All};
+ghost use Rattle.undo_groups.specs.Past.{Past, AreOf, Steps, Repeated};
 ghost use Rattle.undo_groups.specs.Replay.{IsCountable, Takes, Plays, opening, scene_of};
 
 use crate::fault::{GroupFault, RedoFault, UndoFault};
 use crate::groups::Groups;
 use crate::invertible::Invertible;
+use crate::way::{MOST_GROUPS, Way};
 use std::alloc::{AllocError, Global};
 
 /// What is asked of a target with its groups.
@@ -65,6 +66,15 @@ pub fn replay<T: Invertible>(
         groups,
         replies,
     })
+}
+
+/// Where up to 256 groups ran one after another, as many undos give the value before the first of them.
+///
+/// This is a law of the steps that the calls of `Groups` take, and does nothing when it runs.
+pub fn undos_restore<T: Invertible>()
+    ensures { (start middle end : Past T.Value) (n : ℕ) → n ≤ MOST_GROUPS → Repeated n (Steps Way.Run) start middle
+        → Repeated n (Steps Way.Undo) middle end → end.present ≡ start.present }
+{
 }
 
 // Takes one step.
