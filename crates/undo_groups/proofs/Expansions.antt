@@ -35,14 +35,14 @@ module _ {S O P W : Type 0} (expansion : S → O → Result (List P) W) (after :
   expanded-on s ops i op so_far ps below is gives =
       sym (continued-continued i so_far ps (expanded expansion after (fold after s ps) (drop (i + 1) ops)))
       ∙ sym (ap (continued i so_far) (expanded-next s ops i op below is
-        ∙ ap (λ r. begun r (λ qs. expanded expansion after (fold after s qs) (drop (i + 1) ops))) gives))
+      ∙ ap (λ r. begun r (λ qs. expanded expansion after (fold after s qs) (drop (i + 1) ops))) gives))
 
   -- it is refused
   pub expanded-refused : (s : S) (ops : List O) (i : ℕ) (op : O) (so_far : List P) (why : W) → i < length ops → op ≡ get_or ops i op → expansion s op ≡ Err why
       → continued i so_far (expanded expansion after s (drop i ops)) ≡ Err (record { index = i; why = why })
   expanded-refused s ops i op so_far why below is gives =
       ap (continued i so_far) (expanded-next s ops i op below is
-        ∙ ap (λ r. begun r (λ qs. expanded expansion after (fold after s qs) (drop (i + 1) ops))) gives)
+      ∙ ap (λ r. begun r (λ qs. expanded expansion after (fold after s qs) (drop (i + 1) ops))) gives)
       ∙ ap (λ n. Err (record { index = n; why = why })) (add-zero i)
 
 -- The first i operations were expanded and their primitives applied: what they came to, and what the others decide.
@@ -68,10 +68,10 @@ module _ {S O P W V : Type 0} (expansion : S → O → Result (List P) W) (after
         fits = FitInOrder-append m (value s) prims ps so_far.fits (subst (λ v. FitInOrder m v ps) value_is fits);
         changed = target_is ∙ (ap (λ t. fold after t ps) so_far.changed ∙ sym (fold-append after s prims ps));
         answers_are =
-          answers_are
-          ∙ (ap (λ xs. xs ++ answers m (value s') ps) so_far.answers_are
-          ∙ (ap (λ v. answers m (value s) prims ++ answers m v ps) value_is ∙ sym (answers-append m (value s) prims ps)));
+            answers_are
+            ∙ (ap (λ xs. xs ++ answers m (value s') ps) so_far.answers_are
+            ∙ (ap (λ v. answers m (value s) prims ++ answers m v ps) value_is ∙ sym (answers-append m (value s) prims ps)));
         comes_to =
-          ap (λ t. continued (i + 1) (prims ++ ps) (expanded expansion after t (drop (i + 1) ops))) target_is
-          ∙ (expanded-on expansion after s' ops i op prims ps below is gives ∙ so_far.comes_to);
+            ap (λ t. continued (i + 1) (prims ++ ps) (expanded expansion after t (drop (i + 1) ops))) target_is
+            ∙ (expanded-on expansion after s' ops i op prims ps below is gives ∙ so_far.comes_to);
       })

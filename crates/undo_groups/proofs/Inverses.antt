@@ -31,8 +31,8 @@ inverse-fits m laws v (p ∷ ps) h =
     let w = m.changed v p in
     let end = fold m.changed w ps in
     subst (FitInOrder m end) (sym (inverse-cons m v p ps))
-      (FitInOrder-append m end (inverse m w ps) (m.answer v p ∷ []) (inverse-fits m laws w ps h.1)
-        (subst (λ u. m.fits u (m.answer v p)) (sym (inverse-restores m laws w ps h.1)) (laws.fits v p h.0), tt))
+    (FitInOrder-append m end (inverse m w ps) (m.answer v p ∷ []) (inverse-fits m laws w ps h.1)
+    (subst (λ u. m.fits u (m.answer v p)) (sym (inverse-restores m laws w ps h.1)) (laws.fits v p h.0), tt))
 
 -- the value of the target that fitting primitives leave
 pub value-fold : {S V P : Type 0} (m : Meaning V P) (after : S → P → S) (value : S → V)

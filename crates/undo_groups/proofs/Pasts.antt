@@ -58,40 +58,40 @@ module _ {V P : Type 0} (m : Meaning V P) (laws : IsInvertible m) (v : V) (prims
   pub FitFromLast-kept : (gs : List (List P)) → FitFromLast m v gs → FitFromLast m (fold m.changed v prims) (gs ++ inverse m v prims ∷ [])
   FitFromLast-kept gs h =
       FitFromLast-snoc m (fold m.changed v prims) gs (inverse m v prims) (inverse-fits m laws v prims fits)
-        (subst (λ w. FitFromLast m w gs) (sym (inverse-restores m laws v prims fits)) h)
+      (subst (λ w. FitFromLast m w gs) (sym (inverse-restores m laws v prims fits)) h)
 
   -- the lists stand for the past after the step
   pub past-steps : (way : Way) (old new : Lists P) → AreOf m v old → Moves way prims (inverse m v prims) old new → Steps way (past_of m v old) (past_of m (fold m.changed v prims) new)
   past-steps Run old new are moves = record {
-      earlier =
+    earlier =
         ap (values_behind m (fold m.changed v prims)) moves.0
         ∙ (values_behind-newest m (fold m.changed v prims) _ (old.earlier ++ inverse m v prims ∷ [])
         ∙ ap (newest _) (values_behind-kept old.earlier));
-      undone = ap (values_behind m (fold m.changed v prims)) moves.1;
-    }
+    undone = ap (values_behind m (fold m.changed v prims)) moves.1;
+  }
   past-steps Undo old new are moves = record {
-      earlier = ap (values_behind m v) moves.0 ∙ values_behind-last m v new.earlier prims;
-      undone = ap (values_behind m (fold m.changed v prims)) moves.1 ∙ values_behind-kept old.undone;
-    }
+    earlier = ap (values_behind m v) moves.0 ∙ values_behind-last m v new.earlier prims;
+    undone = ap (values_behind m (fold m.changed v prims)) moves.1 ∙ values_behind-kept old.undone;
+  }
   past-steps Redo old new are moves = record {
-      earlier = ap (values_behind m (fold m.changed v prims)) moves.1 ∙ values_behind-kept old.earlier;
-      undone = ap (values_behind m v) moves.0 ∙ values_behind-last m v new.undone prims;
-    }
+    earlier = ap (values_behind m (fold m.changed v prims)) moves.1 ∙ values_behind-kept old.earlier;
+    undone = ap (values_behind m v) moves.0 ∙ values_behind-last m v new.undone prims;
+  }
 
   -- they are of the target after the step
   pub AreOf-steps : (way : Way) (old new : Lists P) → AreOf m v old → Moves way prims (inverse m v prims) old new → AreOf m (fold m.changed v prims) new
   AreOf-steps Run old new are moves = record {
-      earlier = subst (FitFromLast m (fold m.changed v prims)) (sym moves.0) (FitFromLast-drop m _ _ (old.earlier ++ inverse m v prims ∷ []) (FitFromLast-kept old.earlier are.earlier));
-      undone = subst (FitFromLast m (fold m.changed v prims)) (sym moves.1) tt;
-    }
+    earlier = subst (FitFromLast m (fold m.changed v prims)) (sym moves.0) (FitFromLast-drop m _ _ (old.earlier ++ inverse m v prims ∷ []) (FitFromLast-kept old.earlier are.earlier));
+    undone = subst (FitFromLast m (fold m.changed v prims)) (sym moves.1) tt;
+  }
   AreOf-steps Undo old new are moves = record {
-      earlier = (FitFromLast-last m v new.earlier prims (subst (FitFromLast m v) moves.0 are.earlier)).1;
-      undone = subst (FitFromLast m (fold m.changed v prims)) (sym moves.1) (FitFromLast-kept old.undone are.undone);
-    }
+    earlier = (FitFromLast-last m v new.earlier prims (subst (FitFromLast m v) moves.0 are.earlier)).1;
+    undone = subst (FitFromLast m (fold m.changed v prims)) (sym moves.1) (FitFromLast-kept old.undone are.undone);
+  }
   AreOf-steps Redo old new are moves = record {
-      earlier = subst (FitFromLast m (fold m.changed v prims)) (sym moves.1) (FitFromLast-kept old.earlier are.earlier);
-      undone = (FitFromLast-last m v new.undone prims (subst (FitFromLast m v) moves.0 are.undone)).1;
-    }
+    earlier = subst (FitFromLast m (fold m.changed v prims)) (sym moves.1) (FitFromLast-kept old.earlier are.earlier);
+    undone = (FitFromLast-last m v new.undone prims (subst (FitFromLast m v) moves.0 are.undone)).1;
+  }
 
 -- What a step on a target makes of its past.
 module _ {S V P : Type 0} (after : S → P → S) (value : S → V) (m : Meaning V P) (laws : IsInvertible m)

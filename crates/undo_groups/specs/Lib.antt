@@ -1,5 +1,6 @@
 pub mod Meaning
 pub mod Expansion
+pub mod ListEdits
 pub mod Lists
 pub mod Past
 pub mod Step

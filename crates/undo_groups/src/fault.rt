@@ -1,5 +1,5 @@
 //! Why a call was refused.
-use std::alloc::AllocError;
+use std::alloc::{AllocError, AllocFailed};
 use std::fmt::Display;
 use thiserror::Error;
 
@@ -22,6 +22,17 @@ impl<Why> From<AllocError> for ExpandFault<Why> {
     ghost from_gives = { λ _ e. e ≡ NoMemory };
 
     fn from(_error: AllocError) -> ExpandFault<Why> {
+        ExpandFault::NoMemory
+    }
+}
+
+impl<Why, T: Drop> From<AllocFailed<T>> for ExpandFault<Why> {
+    ghost use Rattle.std.specs.Prelude.{◌≡◌};
+    ghost use Rattle.undo_groups.specs.declared.fault.ExpandFault.TheVariants.{NoMemory};
+
+    ghost from_gives = { λ _ e. e ≡ NoMemory };
+
+    fn from(_error: AllocFailed<T>) -> ExpandFault<Why> {
         ExpandFault::NoMemory
     }
 }

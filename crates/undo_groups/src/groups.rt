@@ -48,11 +48,7 @@ impl<T: Invertible> Groups<T> {
     }
 
     /// Runs the operations, all or none, each on what the earlier ones leave.
-    pub fn run_group(
-        &mut self,
-        target: &mut T,
-        ops: &[T::Op],
-    ) -> Result<(), GroupFault<T::Why>>
+    pub fn run_group(&mut self, target: &mut T, ops: &[T::Op]) -> Result<(), GroupFault<T::Why>>
         requires few { length ops.now < 2 ^ 32 }
         requires of_target { AreOf T.meaning (T.value target.old) self.old }
 
@@ -104,11 +100,7 @@ impl<T: Invertible> Groups<T> {
     }
 
     /// Makes ready what `run_group` would do.
-    pub fn ready_group(
-        &self,
-        target: &T,
-        ops: &[T::Op],
-    ) -> Result<Ready<T>, GroupFault<T::Why>>
+    pub fn ready_group(&self, target: &T, ops: &[T::Op]) -> Result<Ready<T>, GroupFault<T::Why>>
         requires few { length ops.now < 2 ^ 32 }
         requires of_target { AreOf T.meaning (T.value target.now) self.now }
 

@@ -6,13 +6,15 @@ mod fault;
 mod group;
 mod groups;
 mod invertible;
-mod ready;
 mod playback;
+mod ready;
+#[cfg(test)]
+mod tests;
 mod way;
 
 pub use fault::{ExpandFault, GroupFault, RedoFault, UndoFault};
 pub use groups::Groups;
 pub use invertible::Invertible;
-pub use ready::Ready;
 pub use playback::{Replayed, Reply, Step, replay, undos_restore};
+pub use ready::Ready;
 pub use way::{MOST_GROUPS, Way};

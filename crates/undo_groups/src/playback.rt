@@ -74,8 +74,7 @@ pub fn replay<T: Invertible>(
 pub fn undos_restore<T: Invertible>()
     ensures { (start middle end : Past T.Value) (n : ℕ) → n ≤ MOST_GROUPS → Repeated n (Steps Way.Run) start middle
         → Repeated n (Steps Way.Undo) middle end → end.present ≡ start.present }
-{
-}
+{}
 
 // Takes one step.
 fn take<T: Invertible>(

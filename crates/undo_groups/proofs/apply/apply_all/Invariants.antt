@@ -10,7 +10,7 @@ invariant-loop-prim g l =
     let after = g.T.Invertible.after in
     let left = drop l.prim-index l.prims in
     record {
-        fits : FitInOrder m (value l.target) left;
-        target : fold after l.target left ≡ fold after l.initial.target l.prims;
-        answered : l.answered.items ++ answers m (value l.target) left ≡ l.initial.answered.items ++ answers m (value l.initial.target) l.prims
+      fits : FitInOrder m (value l.target) left;
+      target : fold after l.target left ≡ fold after l.initial.target l.prims;
+      answered : l.answered.items ++ answers m (value l.target) left ≡ l.initial.answered.items ++ answers m (value l.initial.target) l.prims;
     }

@@ -17,7 +17,7 @@ loop-step-preserved g c =
     record {
       of_target = c.in_ok-take.ensures.of_target;
       plays =
-        subst (λ xs. Plays t.expansion t.after t.value xs c.push.new.self.items start now) (sym more)
-        (subst (λ rs. Plays t.expansion t.after t.value (take i steps ++ step ∷ []) rs start now) (sym c.in_ok-push.ensures.items)
-        (Plays-more t.expansion t.after t.value (take i steps) c.loop-step.replies.items start _ now step c.in_ok-take.field-0 c.loop-step.invariant.plays c.in_ok-take.ensures.takes));
+          subst (λ xs. Plays t.expansion t.after t.value xs c.push.new.self.items start now) (sym more)
+          (subst (λ rs. Plays t.expansion t.after t.value (take i steps ++ step ∷ []) rs start now) (sym c.in_ok-push.ensures.items)
+          (Plays-more t.expansion t.after t.value (take i steps) c.loop-step.replies.items start _ now step c.in_ok-take.field-0 c.loop-step.invariant.plays c.in_ok-take.ensures.takes));
     }

@@ -7,6 +7,6 @@ abbrev pub invariant-loop-step : goal.invariant-loop-step
 invariant-loop-step g l =
     let t = g.T.Invertible in
     record {
-        of_target : AreOf t.meaning (t.value l.played) l.groups;
-        plays : Plays t.expansion t.after t.value (take l.step-index l.steps) l.replies.items (opening t.value l.fn.target) (scene_of t.value t.meaning l.played l.groups)
+      of_target : AreOf t.meaning (t.value l.played) l.groups;
+      plays : Plays t.expansion t.after t.value (take l.step-index l.steps) l.replies.items (opening t.value l.fn.target) (scene_of t.value t.meaning l.played l.groups);
     }
