@@ -1,5 +1,5 @@
 -- An edit of a list and the edit that takes it back, as the tests' target makes them.
-use Rattle.std.proofs.Common.{◌≡◌, ℕ, zero, suc, ◌<◌, ◌≤◌, List, [], ◌∷◌, ◌++◌, length, get_or, take, drop, ap, refl, arith}
+use Rattle.std.proofs.Common.{◌≡◌, ℕ, zero, suc, ◌<◌, ◌≤◌, List, [], ◌∷◌, length, ap, refl, arith}
 use Rattle.std.specs.Prelude.{slice_set, slice_index, insert, remove}
 
 module _ (x : ℕ) where

@@ -118,6 +118,63 @@ fn undo_often<T: Invertible>(
     Ok(())
 }
 
+// Runs the group, and once more where there was no memory for it.
+fn run_again<T: Invertible>(
+    groups: &mut Groups<T>,
+    target: &mut T,
+    ops: &[T::Op],
+) -> Result<(), GroupFault<T::Why>>
+    requires few { length ops.now < 2 ^ 32 }
+    requires of_target { AreOf T.meaning (T.value target.old) groups.old }
+    ensures { AreOf T.meaning (T.value target.new) groups.new }
+{
+    match groups.run_group(target, ops) {
+        Err(GroupFault::NoMemory) => groups.run_group(target, ops),
+        answer => answer,
+    }
+}
+
+// Undoes, and once more where there was no memory for it.
+fn undo_again<T: Invertible>(groups: &mut Groups<T>, target: &mut T) -> Result<(), UndoFault>
+    requires { AreOf T.meaning (T.value target.old) groups.old }
+    ensures { AreOf T.meaning (T.value target.new) groups.new }
+{
+    match groups.undo(target) {
+        Err(UndoFault::NoMemory) => groups.undo(target),
+        answer => answer,
+    }
+}
+
+// Redoes, and once more where there was no memory for it.
+fn redo_again<T: Invertible>(groups: &mut Groups<T>, target: &mut T) -> Result<(), RedoFault>
+    requires { AreOf T.meaning (T.value target.old) groups.old }
+    ensures { AreOf T.meaning (T.value target.new) groups.new }
+{
+    match groups.redo(target) {
+        Err(RedoFault::NoMemory) => groups.redo(target),
+        answer => answer,
+    }
+}
+
+// Where the Nth allocation fails, for any N, the calls after it answer the same.
+#[test]
+fn a_call_without_memory_leaves_all_as_before(rt: HostRuntime) -> Result<(), Fail> {
+    let mut target = Numbers::from_slice(rt.alloc(), &[1, 2, 3])?;
+    let mut groups = Groups::new(rt.alloc())?;
+    let first = [Op::Move { from: 0, to: 2 }, Op::Draw];
+    run_again(&mut groups, &mut target, &first)?;
+    run_again(&mut groups, &mut target, &[Op::Set { at: 3, number: 9 }])?;
+    assert_eq!(rt; target.items(), [2, 3, 1, 9].as_slice());
+    undo_again(&mut groups, &mut target)?;
+    assert_eq!(rt; target.items(), [2, 3, 1, 100].as_slice());
+    undo_again(&mut groups, &mut target)?;
+    assert_eq!(rt; target.items(), [1, 2, 3].as_slice());
+    redo_again(&mut groups, &mut target)?;
+    redo_again(&mut groups, &mut target)?;
+    assert_eq!(rt; target.items(), [2, 3, 1, 9].as_slice());
+    Ok(())
+}
+
 #[test]
 fn the_oldest_of_257_groups_is_dropped(rt: HostRuntime) -> Result<(), Fail> {
     let mut target = Numbers::from_slice(rt.alloc(), &[])?;
