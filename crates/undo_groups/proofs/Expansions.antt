@@ -59,11 +59,13 @@ module _ {S O P W V : Type 0} (expansion : S → O → Result (List P) W) (after
   value_is : value s' ≡ fold m.changed (value s) prims
   value_is = ap value so_far.changed ∙ value-fold m after value value_after s prims so_far.fits
 
-  pub RunSoFar-more : (op : O) (ps : List P) (s2 : S) (prims2 answered2 : List P)
-      → i < length ops → op ≡ get_or ops i op → expansion s' op ≡ Ok ps → FitInOrder m (value s') ps
-      → s2 ≡ fold after s' ps → answered2 ≡ answered ++ answers m (value s') ps → prims2 ≡ prims ++ ps
+  pub RunSoFar-more : (op : O) (ps slice : List P) (s2 : S) (prims2 answered2 : List P)
+      → i < length ops → op ≡ get_or ops i op → expansion s' op ≡ Ok ps → FitInOrder m (value s') ps → slice ≡ ps
+      → s2 ≡ fold after s' slice → answered2 ≡ answered ++ answers m (value s') slice → prims2 ≡ prims ++ ps
       → RunSoFar expansion after value m s ops (i + 1) s2 prims2 answered2
-  RunSoFar-more op ps s2 prims2 answered2 below is gives fits target_is answers_are prims_are =
+  RunSoFar-more op ps slice s2 prims2 answered2 below is gives fits slice_is target_slice answers_slice prims_are =
+      let target_is = target_slice ∙ ap (fold after s') slice_is in
+      let answers_are = answers_slice ∙ ap (λ xs. answered ++ answers m (value s') xs) slice_is in
       subst (λ xs. RunSoFar expansion after value m s ops (i + 1) s2 xs answered2) (sym prims_are) (record {
         fits = FitInOrder-append m (value s) prims ps so_far.fits (subst (λ v. FitInOrder m v ps) value_is fits);
         changed = target_is ∙ (ap (λ t. fold after t ps) so_far.changed ∙ sym (fold-append after s prims ps));

@@ -13,3 +13,14 @@ module _ {S O P W V : Type 0} (expansion : S → O → Result (List P) W) (after
       (plays.0, plays.1, Plays-more steps replies plays.0 mid new step reply plays.2 takes)
   Plays-more [] (answer ∷ replies) old mid new step reply plays takes = absurd plays
   Plays-more (first ∷ steps) [] old mid new step reply plays takes = absurd plays
+
+  -- the same, where the steps so far are the first i
+  pub Plays-on : (steps : List (Step O)) (i : ℕ) (replies replies2 : List (Reply W)) (old mid new : Scene S V) (step : Step O) (reply : Reply W)
+      → i < length steps → step ≡ get_or steps i step → replies2 ≡ replies ++ reply ∷ []
+      → Plays expansion after value (take i steps) replies old mid → Takes expansion after value step reply mid new
+      → Plays expansion after value (take (i + 1) steps) replies2 old new
+  Plays-on steps i replies replies2 old mid new step reply below is replies_are plays takes =
+      let more = take_more steps i step below ∙ ap (λ s. take i steps ++ s ∷ []) (sym is) in
+      subst (λ xs. Plays expansion after value xs replies2 old new) (sym more)
+      (subst (λ rs. Plays expansion after value (take i steps ++ step ∷ []) rs old new) (sym replies_are)
+      (Plays-more (take i steps) replies old mid new step reply plays takes))

@@ -14,7 +14,17 @@ use std::alloc::{AllocError, Global};
 use std::collections::VecDeque;
 use std::marker::Model;
 
-/// The groups of primitives that lead back to the earlier values of a target, and those that lead on to the undone ones.
+/// The groups of primitives that lead back to the earlier values of a target, and those that lead on to the
+/// undone ones.
+///
+/// Contracts see the lists `earlier` and `undone`, in each the oldest group first and the next to be applied last.
+/// All calls are for one target: from its present value each list fits, the last group first, and gives the values
+/// that undo or redo will make present one after another. The past of the target is its value with these two lists
+/// of values, and each call says how it changes that.
+///
+/// A step works on a copy of the target, and takes all its memory before it changes anything. So a refusal or want
+/// of memory leaves the target and the lists as before. The room for the groups themselves, 256 in each list, is
+/// taken when the lists are made.
 #[derive(Drop)]
 pub struct Groups<T: Invertible> {
     earlier: VecDeque<Group<T::Prim>>,
@@ -47,7 +57,10 @@ impl<T: Invertible> Groups<T> {
         })
     }
 
-    /// Runs the operations, all or none, each on what the earlier ones leave.
+    /// Runs the operations, all or none, each expanded on what the earlier ones leave.
+    ///
+    /// The group is refused with the first operation that is refused there, and its place from 0. Else one group is
+    /// kept of it, the oldest of 257 is dropped, and nothing is left to redo.
     pub fn run_group(&mut self, target: &mut T, ops: &[T::Op]) -> Result<(), GroupFault<T::Why>>
         requires few { length ops.now < 2 ^ 32 }
         requires of_target { AreOf T.meaning (T.value target.old) self.old }
@@ -65,7 +78,7 @@ impl<T: Invertible> Groups<T> {
         Ok(())
     }
 
-    /// Goes back to the value before the last group.
+    /// Goes back to the value before the last group that was run or redone. Refused where none is kept.
     pub fn undo(&mut self, target: &mut T) -> Result<(), UndoFault>
         requires of_target { AreOf T.meaning (T.value target.old) self.old }
 
@@ -82,7 +95,7 @@ impl<T: Invertible> Groups<T> {
         Ok(())
     }
 
-    /// Goes on to the value that was undone last.
+    /// Goes on to the value that was undone last. Refused where nothing was undone since the last run.
     pub fn redo(&mut self, target: &mut T) -> Result<(), RedoFault>
         requires of_target { AreOf T.meaning (T.value target.old) self.old }
 
@@ -99,10 +112,9 @@ impl<T: Invertible> Groups<T> {
         Ok(())
     }
 
-    /// Makes ready what `run_group` would do.
+    /// Makes ready what `run_group` would do, or refuses as it would. The step is then done by `commit`.
     pub fn ready_group(&self, target: &T, ops: &[T::Op]) -> Result<Ready<T>, GroupFault<T::Why>>
-        requires few { length ops.now < 2 ^ 32 }
-        requires of_target { AreOf T.meaning (T.value target.now) self.now }
+        requires { length ops.now < 2 ^ 32 }
 
         ensures answer { AnswersGroup (expanded T.expansion T.after target.now ops.now) result }
         ensures way { IfOk result (λ ready. ready.way ≡ Way.Run) }
@@ -112,7 +124,7 @@ impl<T: Invertible> Groups<T> {
         Ready::of_group(self.alloc, target, ops)
     }
 
-    /// Makes ready what `undo` would do.
+    /// Makes ready what `undo` would do, or refuses as it would. The step is then done by `commit`.
     pub fn ready_undo(&self, target: &T) -> Result<Ready<T>, UndoFault>
         requires of_target { AreOf T.meaning (T.value target.now) self.now }
 
@@ -126,7 +138,7 @@ impl<T: Invertible> Groups<T> {
         }
     }
 
-    /// Makes ready what `redo` would do.
+    /// Makes ready what `redo` would do, or refuses as it would. The step is then done by `commit`.
     pub fn ready_redo(&self, target: &T) -> Result<Ready<T>, RedoFault>
         requires of_target { AreOf T.meaning (T.value target.now) self.now }
 
@@ -140,7 +152,8 @@ impl<T: Invertible> Groups<T> {
         }
     }
 
-    /// Does a step that was made ready for this target and these lists, as they still are. It takes no memory.
+    /// Does a step that was made ready for this target and these lists, as they still are. It takes no memory, so
+    /// it cannot fail.
     pub fn commit(&mut self, target: &mut T, ready: Ready<T>)
         requires of_target { AreOf T.meaning (T.value target.old) self.old }
         requires ready { IsReadyFor T.after T.value T.meaning target.old self.old ready }

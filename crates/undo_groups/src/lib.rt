@@ -1,4 +1,8 @@
 //! Groups of changes that are all or nothing, with undo and redo, over any target.
+//!
+//! A target expands each operation to primitives, and applying a primitive answers the one that takes it back
+//! (`Invertible`). `Groups` keeps what the primitives of a group answered, in the opposite order, so that undo and
+//! redo need no copy of an earlier value.
 #![tactic(auto)]
 
 mod apply;

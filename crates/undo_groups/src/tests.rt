@@ -58,6 +58,9 @@ fn a_refused_group_changes_nothing(rt: HostRuntime) -> Result<(), Fail> {
     Ok(())
 }
 
+// A value of this type may move to another thread.
+fn crosses_threads<X: Send>(_value: &X) {}
+
 #[test]
 fn a_ready_step_is_done_by_its_commit(rt: HostRuntime) -> Result<(), Fail> {
     let mut target = Numbers::from_slice(rt.alloc(), &[5, 6])?;
@@ -70,6 +73,8 @@ fn a_ready_step_is_done_by_its_commit(rt: HostRuntime) -> Result<(), Fail> {
     ];
     assert_eq!(rt; ready.prims(), applied.as_slice());
     assert_eq!(rt; target.items(), [5, 6].as_slice());
+    crosses_threads(&groups);
+    crosses_threads(&ready);
     groups.commit(&mut target, ready);
     assert_eq!(rt; target.items(), [4, 5, 6, 100].as_slice());
     let ready = groups.ready_undo(&target)?;

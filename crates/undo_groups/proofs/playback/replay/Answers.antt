@@ -1,23 +1,15 @@
-use Rattle.std.proofs.Common.{◌<◌, ◌∷◌, ◌++◌, [], length, take, ◌∙◌, sym, ap, subst, arith}
-use Rattle.std.proofs.lemmas.List.{take_more}
-use Rattle.undo_groups.specs.Replay.{Plays, opening, scene_of}
-use Rattle.undo_groups.proofs.Plays.{Plays-more}
+use Rattle.std.proofs.Common.{arith}
+use Rattle.undo_groups.specs.Replay.{opening, scene_of}
+use Rattle.undo_groups.proofs.Plays.{Plays-on}
 use Rattle.undo_groups.proofs.playback.replay.Goals as goal
 
 pub loop-step-preserved : goal.loop-step-preserved
 loop-step-preserved g c =
     let t = g.T.Invertible in
-    let i = c.loop-step.step-index in
-    let steps = c.args.steps.now in
-    let step = c.step-item.result in
-    let below : i < length steps = omega arith in
-    let more = take_more steps i step below ∙ ap (λ s. take i steps ++ s ∷ []) (sym c.step-item.is) in
-    let start = opening t.value c.args.target.now in
-    let now = scene_of t.value t.meaning c.take.new.target c.take.new.groups in
     record {
       of_target = c.in_ok-take.ensures.of_target;
       plays =
-          subst (λ xs. Plays t.expansion t.after t.value xs c.push.new.self.items start now) (sym more)
-          (subst (λ rs. Plays t.expansion t.after t.value (take i steps ++ step ∷ []) rs start now) (sym c.in_ok-push.ensures.items)
-          (Plays-more t.expansion t.after t.value (take i steps) c.loop-step.replies.items start _ now step c.in_ok-take.field-0 c.loop-step.invariant.plays c.in_ok-take.ensures.takes));
+          Plays-on t.expansion t.after t.value c.args.steps.now c.loop-step.step-index c.loop-step.replies.items c.push.new.self.items
+          (opening t.value c.args.target.now) (scene_of t.value t.meaning c.loop-step.played c.loop-step.groups) (scene_of t.value t.meaning c.take.new.target c.take.new.groups)
+          c.step-item.result c.in_ok-take.field-0 (omega arith) c.step-item.is c.in_ok-push.ensures.items c.loop-step.invariant.plays c.in_ok-take.ensures.takes;
     }
