@@ -1,5 +1,6 @@
 -- A run of steps goes on by one.
-use Rattle.std.proofs.Common.{List, [], ◌∷◌, ◌++◌, Result, subst, refl}
+use Rattle.std.proofs.Common.{◌≡◌, ℕ, ◌+◌, ◌<◌, List, [], ◌∷◌, ◌++◌, length, get_or, take, Result, sym, ◌∙◌, ap, subst, refl}
+use Rattle.std.proofs.lemmas.List.{take_more}
 use Rattle.undo_groups.specs.declared.playback.Step.{Step}
 use Rattle.undo_groups.specs.declared.playback.Reply.{Reply}
 use Rattle.undo_groups.specs.Replay.{Scene, Takes, Plays}
