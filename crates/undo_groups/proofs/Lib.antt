@@ -1,0 +1,6 @@
+mod Expansions
+mod Inverses
+mod Pasts
+mod Plays
+mod Restoring
+mod Splits

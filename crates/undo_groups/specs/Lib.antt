@@ -1,0 +1,7 @@
+pub mod Meaning
+pub mod Expansion
+pub mod ListEdits
+pub mod Lists
+pub mod Past
+pub mod Step
+pub mod Replay
