@@ -1,0 +1,57 @@
+-- What each kind of step tells the seat that makes it.
+use Rattle.std.specs.Prelude.{◌≡◌, ◌≢◌, ℕ, ◌+◌, ◌<◌, ◌≤◌, List, [], ◌∷◌, length, Option, Some}
+use Rattle.atomic_table.specs.Table.{Me, Step}
+use Rattle.turn_lock.specs.declared.machine.Machine.{Ghosts}
+use Rattle.turn_lock.specs.declared.machine.Entry.{Entry}
+use Rattle.turn_lock.specs.declared.book.Book.{Book}
+use Rattle.turn_lock.specs.declared.view.Terms.{Terms}
+use Rattle.turn_lock.specs.declared.view.Known.{Known}
+use Rattle.turn_lock.specs.declared.view.View.{View}
+use Rattle.turn_lock.specs.declared.view.Stage.{Stage}
+use Rattle.turn_lock.specs.declared.view.Stage.TheVariants.{Resting, Holding, Counted, Met}
+use Rattle.turn_lock.specs.History.{calls_of, IsLegal}
+use Rattle.turn_lock.specs.Numbers.{IsUngiven, Gains}
+
+module _ {M C R S : Type 0} where
+  -- what a seat learns of the history that it sees: it is legal, no longer than the limit, and has no number that the seat has yet to give
+  pub record Saw (g : Ghosts M C R S) (t : Terms M C R S) (k : Known M C R S) : Type 0 where
+    pub legal : IsLegal g.reply g.after (g.state t.start.value) k.seen
+    pub within : (length k.seen ≤ t.limit) × (t.limit < 4294967296)
+    pub ungiven : (n : ℕ) → IsUngiven k n → calls_of n k.seen ≡ []
+
+  abbrev pub seeing : View M C R S → List (Entry M C R S) → Stage M C R S → View M C R S
+  seeing v h stage = record v { known = record v.known { seen = h }; stage = stage }
+
+  abbrev pub tried : View M C R S → ℕ → View M C R S
+  tried v n = record v { tries = v.tries + 1; read = n }
+
+module _ {M C R S : Type 0} {g : Ghosts M C R S} where
+  -- the turn was free, and now the seat has it, with the machine and the whole history
+  abbrev pub Takes : Me (Option (Book M C R S g)) (View M C R S) → Me (Option (Book M C R S g)) (View M C R S) → Type 0
+  Takes m m' = (b : Book M C R S g) × (m' ≡ (seeing (tried m.0 0) b.journal.items Holding, (0, Some b) ∷ m.1)) × Gains m.0.known b.journal.items
+      × ((t : Terms M C R S) → m.0.terms ≡ Some t → (b.start.value ≡ t.start.value) × Saw g t m'.0.known)
+
+  -- another seat has the turn
+  abbrev pub Misses : Me (Option (Book M C R S g)) (View M C R S) → ℕ → Me (Option (Book M C R S g)) (View M C R S) → Type 0
+  Misses m n m' = (m' ≡ (tried m.0 n, m.1)) × (n ≢ m.0.known.number + 1) × (n < 4294967296)
+
+  abbrev pub took : Step (Option (Book M C R S g)) → Me (Option (Book M C R S g)) (View M C R S) → ℕ → Me (Option (Book M C R S g)) (View M C R S) → Type 0
+  took st m n m' = (n ≡ 0 → Takes m m') × (n ≢ 0 → Misses m n m')
+
+  -- what the seat has in hand was counted
+  abbrev pub counted : Step (Option (Book M C R S g)) → Me (Option (Book M C R S g)) (View M C R S) → ℕ → Me (Option (Book M C R S g)) (View M C R S) → Type 0
+  counted st m n m' = (b : Book M C R S g) → m.1 ≡ (0, Some b) ∷ []
+      → (m' ≡ (seeing m.0 b.journal.items Counted, m.1)) × ((t : Terms M C R S) → m.0.terms ≡ Some t → Saw g t m'.0.known)
+
+  abbrev pub freed : Step (Option (Book M C R S g)) → Me (Option (Book M C R S g)) (View M C R S) → ℕ → Me (Option (Book M C R S g)) (View M C R S) → Type 0
+  freed st m n m' = m' ≡ (record m.0 { stage = Resting }, [])
+
+  -- the seat sees the whole history
+  abbrev pub loaded : Step (Option (Book M C R S g)) → Me (Option (Book M C R S g)) (View M C R S) → ℕ → Me (Option (Book M C R S g)) (View M C R S) → Type 0
+  loaded st m n m' = (h : List (Entry M C R S)) × (m' ≡ (seeing m.0 h Resting, m.1)) × Gains m.0.known h × (n ≡ length h)
+      × ((t : Terms M C R S) → m.0.terms ≡ Some t → Saw g t m'.0.known)
+
+  -- what each of two joined seats has seen begins the one history that was kept
+  abbrev pub compared : Step (Option (Book M C R S g)) → Me (Option (Book M C R S g)) (View M C R S) → ℕ → Me (Option (Book M C R S g)) (View M C R S) → Type 0
+  compared st m n m' = (m' ≡ (record m.0 { stage = Resting }, m.1)) × ((a b : Known M C R S) → m.0.stage ≡ Met a b → Gains a m.0.known.seen × Gains b m.0.known.seen)
+      × ((t : Terms M C R S) → m.0.terms ≡ Some t → Saw g t m'.0.known)
