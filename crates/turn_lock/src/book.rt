@@ -46,8 +46,15 @@ impl<M: Machine> Book<M> {
         }
     }
 
-    #[tactic(auto, using(crate::proofs::Histories::state_after_snoc))]
+    /// How many entries the journal has.
+    pub fn len(&self) -> usize
+        ensures { result ≡ length self.now.journal.items }
+    {
+        self.journal.len()
+    }
+
     /// One call, which becomes the journal's last entry.
+    #[tactic(auto, using(crate::proofs::Histories::state_after_snoc))]
     pub fn enter(&mut self, caller: u32, order: Order<M>) -> Result<Entry<M>, AllocError>
         requires { length self.old.journal.items < 2 ^ 32 - 1 }
         ensures entry { IfOk result (λ e. e ≡ entry (length self.old.journal.items + 1) caller order.kept (M.reply (state_after M.after (M.state self.old.start.value) self.old.journal.items) order.kept)) }

@@ -2,9 +2,20 @@
 #![tactic(auto)]
 
 mod book;
+mod booked;
+mod fault;
+mod lock;
 mod machine;
 mod rule;
+mod seat;
+mod steps;
 mod view;
 
+pub use book::Book;
+pub use booked::Booked;
+pub use fault::{CallFault, TryFault};
+pub use lock::TurnLock;
 pub use machine::{Entry, Machine};
+pub use rule::{OneTurn, Pass};
+pub use seat::Seat;
 pub use view::{Known, Stage, Terms, View};

@@ -25,31 +25,31 @@ pub type Pass<M> = Seat<Option<Book<M>>, View<M>>;
 pub(crate) struct Take;
 
 impl<M: Machine> Play<Option<Book<M>>, View<M>> for Take {
-    ghost then = { took };
+    ghost then = { λ _. took };
 }
 
 pub(crate) struct Count;
 
 impl<M: Machine> Play<Option<Book<M>>, View<M>> for Count {
-    ghost then = { counted };
+    ghost then = { λ _. counted };
 }
 
 pub(crate) struct Free;
 
 impl<M: Machine> Play<Option<Book<M>>, View<M>> for Free {
-    ghost then = { freed };
+    ghost then = { λ _. freed };
 }
 
 pub(crate) struct Load;
 
 impl<M: Machine> Play<Option<Book<M>>, View<M>> for Load {
-    ghost then = { loaded };
+    ghost then = { λ _. loaded };
 }
 
 pub(crate) struct Compare;
 
 impl<M: Machine> Play<Option<Book<M>>, View<M>> for Compare {
-    ghost then = { compared };
+    ghost then = { λ _. compared };
 }
 
 pub(crate) struct Cut;
