@@ -1,1 +1,4 @@
 pub mod Histories
+pub mod Gaining
+pub mod Sitting
+pub mod Turning

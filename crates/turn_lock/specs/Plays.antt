@@ -17,11 +17,10 @@ use Rattle.turn_lock.specs.History.{calls_of, IsLegal}
 use Rattle.turn_lock.specs.Numbers.{IsUngiven, Gains}
 
 module _ {M C R S : Type 0} where
-  -- what a seat learns of the history that it sees: it is legal, no longer than the limit, and has no number that the seat has yet to give
+  -- what a seat learns of the history that it sees: it is legal, and no longer than the limit
   pub record Saw (g : Ghosts M C R S) (t : Terms M C R S) (k : Known M C R S) : Type 0 where
     pub legal : IsLegal g.reply g.after (g.state t.start.value) k.seen
     pub within : (length k.seen ≤ t.limit) × (t.limit < 4294967296)
-    pub ungiven : (n : ℕ) → IsUngiven k n → calls_of n k.seen ≡ []
 
   abbrev pub seeing : View M C R S → List (Entry M C R S) → Stage M C R S → View M C R S
   seeing v h stage = record v { known = record v.known { seen = h }; stage = stage }
@@ -74,4 +73,3 @@ module _ {M C R S : Type 0} {g : Ghosts M C R S} where
   -- what each of two joined seats has seen begins the one history that was kept
   abbrev pub compared : Me (Option (Book M C R S g)) (View M C R S) → ℕ → Me (Option (Book M C R S g)) (View M C R S) → Type 0
   compared m n m' = (m' ≡ (record m.0 { stage = Resting }, m.1)) × ((a b : Known M C R S) → m.0.stage ≡ Met a b → Gains a m.0.known.seen × Gains b m.0.known.seen)
-      × ((t : Terms M C R S) → m.0.terms ≡ Some t → Saw g t m'.0.known)
