@@ -2,3 +2,4 @@ pub mod Histories
 pub mod Gaining
 pub mod Sitting
 pub mod Turning
+pub mod Parting
