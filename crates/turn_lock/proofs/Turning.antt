@@ -1,5 +1,5 @@
 -- The steps that take, count and free the turn, and the loads, keep the rule.
-use Rattle.std.proofs.Common.{◌≡◌, ◌≢◌, ℕ, zero, suc, ◌+◌, ◌%◌, ◌^◌, ◌<◌, ◌≤◌, List, [], ◌∷◌, ◌++◌, length, get_or, set, eqb, cond, All, Option, Some, None, refl, sym, ap, ◌∙◌, subst, arith, append-nil, ◌⊎◌, inl, inr, ⊎_elim, length-set, length-append, eq-eqb, ne_eqb}
+use Rattle.std.proofs.Common.{◌≡◌, ◌≢◌, ℕ, zero, suc, ◌+◌, ◌%◌, ◌^◌, ◌<◌, ◌≤◌, List, [], ◌∷◌, ◌++◌, length, get_or, set, eqb, cond, All, Option, Some, None, refl, sym, ap, ◌∙◌, subst, arith, append-nil, ◌⊎◌, inl, inr, ⊎_elim, length-set, length-append, eq-eqb, ne_eqb, unwrap_or}
 use Rattle.std.proofs.lemmas.List.Elements.{All-append}
 use mathlib.Core.Logic.{dite}
 use native.Mathlib.Decide.{ℕ_discrete}
@@ -52,6 +52,15 @@ module _ {M C R S : Type 0} (g : Ghosts M C R S) (t : Terms M C R S) where
     legal = subst (IsLegal g.reply g.after (g.state t.start.value)) (sym e) r.legal;
     within = (subst (λ (h : H). length h ≤ t.limit) (sym e) r.within, r.narrow.0);
   }
+
+  in_hand : B → List (ℕ × Option B) → B
+  in_hand d [] = d
+  in_hand d (x ∷ xs) = unwrap_or x.1 d
+
+  -- a seat has one book in hand
+  pub one_book : (cs : List (ℕ × Option B)) (a b : B) → cs ≡ (0, Some a) ∷ [] → cs ≡ (0, Some b) ∷ [] → a ≡ b
+  unfolding in_hand
+  one_book cs a b is also = let both : (0, Some a) ∷ [] ≡ (0, Some b) ∷ [] = sym is ∙ also in ap (in_hand a) both
 
   -- a load that changes what one seat knows
   quiet : (s : St) (r : Rule s) (i id : ℕ) (v w : V) → get_elem? s.views id ≡ some v → ¬ HasTurn v.stage → SitsIn s r id w
@@ -189,14 +198,9 @@ module _ {M C R S : Type 0} (g : Ghosts M C R S) (t : Terms M C R S) where
           keeps,
           tt,
           new,
-          λ b' carried'. let same : b ≡ b' = let both : (0, Some b) ∷ [] ≡ (0, Some b') ∷ [] = sym carried ∙ carried' in ap (λ (cs : List (ℕ × Option B)). in_hand b cs) both in
+          λ b' carried'. let same : b ≡ b' = one_book me.1 b b' carried carried' in
               (ap (λ (z : B). (seeing me.0 z.journal.items Counted, me.1)) same, λ u of'. subst (λ (z : Terms M C R S). Saw g z w.known) (same_terms t me.0.terms u of of') record { legal = legal; within = (omega arith, fit) }),
         )
-      where
-        in_hand : B → List (ℕ × Option B) → B
-        in_hand d [] = d
-        in_hand d (x ∷ xs) = Rattle.std.proofs.Common.unwrap_or x.1 d
-
     pub frees : (b : B) → HasTurn me.0.stage → me.1 ≡ (0, Some b) ∷ [] → b.journal.items ≡ me.0.known.seen → b.start.value ≡ t.start.value → Allows Rule slots id me 1 (λ _. 0) (λ _. freed me 0)
     frees b has carried same_journal same_start s r deep at fits =
         let k : Known M C R S = me.0.known in let mine = sits s r at in let stage = at_turn t r.history r.owner r.kind r.turn id k me.0.stage has mine.stage in
@@ -257,3 +261,10 @@ module _ {M C R S : Type 0} (g : Ghosts M C R S) (t : Terms M C R S) where
         subst (λ (h : H). Gains x h × Gains y h) (sym p.2) q,
       ),
     )
+
+  -- the journal after an entry, in the words of the seat that makes it
+  pub grown_entry : (v : V) (b : B) (h : H) (e : Entry M C R S) (c : C) (caller : ℕ) → b.journal.items ≡ v.known.seen → b.start.value ≡ t.start.value → caller ≡ v.known.number → h ≡ b.journal.items ++ e ∷ []
+      → e ≡ entry (length b.journal.items + 1) caller c (g.reply (state_after g.after (g.state b.start.value) b.journal.items) c)
+      → h ≡ v.known.seen ++ entry (length v.known.seen + 1) v.known.number c (g.reply (state_after g.after (g.state t.start.value) v.known.seen) c) ∷ []
+  grown_entry v b h e c caller items start mine grown is = let x : H = b.journal.items in
+      grown ∙ (ap (λ (z : Entry M C R S). x ++ z ∷ []) is ∙ (λ i. items i ++ entry (length (items i) + 1) (mine i) c (g.reply (state_after g.after (g.state (start i)) (items i)) c) ∷ []))

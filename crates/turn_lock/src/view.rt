@@ -1,5 +1,6 @@
 //! What a lock and its seats know, for contracts and proofs alone.
 use crate::machine::{Entry, Machine};
+use std::collections::LinkedList;
 use std::snapshot::Snapshot;
 
 /// The machine that a lock began with, how many seats it has, and how many entries its journal may have.
@@ -15,8 +16,8 @@ pub struct Terms<M: Machine> {
 pub struct Known<M: Machine> {
     pub number: u32,
     pub left: u32,
-    pub joined: [u32; 0],
-    pub seen: [Entry<M>; 0],
+    pub joined: LinkedList<u32>,
+    pub seen: LinkedList<Entry<M>>,
 }
 
 /// Where a seat is in a call. No value of it is made.
