@@ -1,6 +1,6 @@
 -- What a history gains beyond what a seat has seen, and the numbers of two seats.
-use Rattle.std.proofs.Common.{◌≡◌, ◌≢◌, ℕ, zero, suc, ◌+◌, ◌<◌, ◌≤◌, List, [], ◌∷◌, ◌++◌, length, Bool, true, false, cond, nat_lt, Contains, refl, sym, ap, ◌∙◌, subst, arith, append_assoc, append-nil, ◌⊎◌, inl, inr, ⊎_elim}
-use Rattle.std.proofs.lemmas.List.Elements.{Contains-append_cases}
+use Rattle.std.proofs.Common.{◌≡◌, ◌≢◌, ℕ, zero, suc, ◌+◌, ◌<◌, ◌≤◌, List, [], ◌∷◌, ◌++◌, length, Bool, true, false, cond, eqb, nat_lt, Contains, refl, sym, ap, ◌∙◌, subst, arith, append_assoc, append-nil, ◌⊎◌, inl, inr, ⊎_elim}
+use Rattle.std.proofs.lemmas.List.Elements.{Contains-append_cases, filter-append}
 use Rattle.std.proofs.lemmas.Bool.Decides.{nat_tests}
 use Rattle.turn_lock.specs.declared.machine.Entry.{Entry}
 use Rattle.turn_lock.specs.declared.view.Known.{Known}
@@ -68,3 +68,7 @@ module _ {M C R S : Type 0} where
   gains_both k l h a b = let P : List (Entry M C R S) → Type 0 = λ x. (more : List (Entry M C R S)) × (h ≡ x ++ more) × ((n : ℕ) → Has k n ⊎ Has l n → calls_of n more ≡ []) in
       let t : P (longer k.seen l.seen) = by_length k.seen l.seen P (λ le. (b.0, b.1, rest_of k l h a b le)) (λ le. (a.0, a.1, λ n has. rest_of l k h b a le n (swapped has))) in
       (t.0, t.1, λ n has. t.2 n (has_both k l n has))
+
+  -- the entries of one of the seat's numbers are those that it had seen
+  pub gains_of : (k : Known M C R S) (h : List (Entry M C R S)) → Gains k h → (n : ℕ) → Has k n → calls_of n h ≡ calls_of n k.seen
+  gains_of k h g n has = ap (calls_of n) g.1 ∙ (filter-append (λ (e : Entry M C R S). eqb e.caller n) k.seen g.0 ∙ (ap (λ x. calls_of n k.seen ++ x) (g.2 n has) ∙ append-nil (calls_of n k.seen)))
