@@ -1,5 +1,5 @@
 -- Laws of lists and histories.
-use Rattle.std.proofs.Common.{◌≡◌, ◌≢◌, ℕ, zero, suc, ◌+◌, ◌<◌, ◌≤◌, List, [], ◌∷◌, ◌++◌, length, cond, eqb, get_or, set, All, refl, sym, ap, ◌∙◌, arith, ne_eqb, eq-eqb, length-append, append_assoc, ◌⊎◌, inl, inr}
+use Rattle.std.proofs.Common.{◌≡◌, ◌≢◌, ℕ, zero, suc, ◌+◌, ◌<◌, ◌≤◌, List, [], ◌∷◌, ◌++◌, length, cond, eqb, get_or, set, All, refl, sym, ap, ◌∙◌, arith, ne_eqb, eq-eqb, length-append, append_assoc, append-nil, ◌⊎◌, inl, inr}
 use Rattle.std.proofs.lemmas.List.Elements.{filter-append}
 use Rattle.std.proofs.lemmas.Grind.{common_steps}
 use mathlib.Core.Option.{some, some-ne-none, some-injective}
@@ -86,3 +86,11 @@ module _ {M C R S : Type 0} where
 
   pub of_right : (n : ℕ) (xs ys : List (Entry M C R S)) → calls_of n (xs ++ ys) ≡ [] → calls_of n ys ≡ []
   of_right n xs ys e = second_empty (calls_of n xs) (calls_of n ys) (sym (filter-append (λ (x : Entry M C R S). eqb x.caller n) xs ys) ∙ e)
+
+  -- another caller's entry at the end
+  pub of_others : (n : ℕ) (h : List (Entry M C R S)) (e : Entry M C R S) → e.caller ≢ n → calls_of n (h ++ e ∷ []) ≡ calls_of n h
+  of_others n h e other = filter-append (λ (x : Entry M C R S). eqb x.caller n) h (e ∷ []) ∙ (ap (λ x. calls_of n h ++ x) (not_of n e other) ∙ append-nil (calls_of n h))
+
+  -- a caller's own entry at the end
+  pub of_own : (n : ℕ) (h : List (Entry M C R S)) (e : Entry M C R S) → e.caller ≡ n → calls_of n (h ++ e ∷ []) ≡ calls_of n h ++ e ∷ []
+  of_own n h e same = filter-append (λ (x : Entry M C R S). eqb x.caller n) h (e ∷ []) ∙ ap (λ x. calls_of n h ++ x) (just_of n e same)

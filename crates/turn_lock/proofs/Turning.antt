@@ -20,7 +20,7 @@ use Rattle.turn_lock.specs.declared.view.Stage.TheVariants.{Resting, Holding, Co
 use Rattle.turn_lock.specs.History.{entry, state_after, calls_of, IsLegal}
 use Rattle.turn_lock.specs.Numbers.{IsUngiven, Has, Gains}
 use Rattle.turn_lock.specs.Rule.{HasTurn, Belongs, AtStage, Sits, Held, Kept}
-use Rattle.turn_lock.specs.Plays.{Saw, seeing, tried, Takes, Misses, took, counted, freed, loaded, compared}
+use Rattle.turn_lock.specs.Plays.{Saw, seeing, tried, Turns, Misses, took, counted, freed, loaded, compared}
 use Rattle.turn_lock.proofs.Histories.{set_there, only_one, all_one, legal_snoc, not_of, of_both}
 use Rattle.turn_lock.proofs.Gaining.{gains_itself, gains_more, gains_longer}
 use Rattle.turn_lock.proofs.Sitting.{seats, same_terms, owns, at_turn, turn_of, moves, not_resting, not_met, held_else, held_by_other}

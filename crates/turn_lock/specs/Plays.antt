@@ -45,9 +45,9 @@ module _ {M C R S : Type 0} {g : Ghosts M C R S} where
   abbrev pub Carries : Seat (Option (Book M C R S g)) (View M C R S) → Option (Book M C R S g) → Type 0
   Carries p x = p.me.1 ≡ (0, x) ∷ []
 
-  -- the turn was free, and now the seat has it, with the machine and the whole history
-  abbrev pub Takes : Me (Option (Book M C R S g)) (View M C R S) → Me (Option (Book M C R S g)) (View M C R S) → Type 0
-  Takes m m' = (b : Book M C R S g) × (m' ≡ (seeing (tried m.0 0) b.journal.items Holding, (0, Some b) ∷ m.1)) × Gains m.0.known b.journal.items
+  -- the seat has the turn after so many tries, of which the last read 0, with the machine and the whole history
+  abbrev pub Turns : Me (Option (Book M C R S g)) (View M C R S) → ℕ → Me (Option (Book M C R S g)) (View M C R S) → Type 0
+  Turns m tries m' = (b : Book M C R S g) × (m' ≡ (seeing (record m.0 { tries = tries; read = 0 }) b.journal.items Holding, (0, Some b) ∷ m.1)) × Gains m.0.known b.journal.items
       × ((t : Terms M C R S) → m.0.terms ≡ Some t → (b.start.value ≡ t.start.value) × Saw g t m'.0.known)
 
   -- another seat has the turn
@@ -55,7 +55,7 @@ module _ {M C R S : Type 0} {g : Ghosts M C R S} where
   Misses m n m' = (m' ≡ (tried m.0 n, m.1)) × (n ≢ m.0.known.number + 1) × (n < 4294967296)
 
   abbrev pub took : Me (Option (Book M C R S g)) (View M C R S) → ℕ → Me (Option (Book M C R S g)) (View M C R S) → Type 0
-  took m n m' = (n ≡ 0 → Takes m m') × (n ≢ 0 → Misses m n m')
+  took m n m' = (n ≡ 0 → Turns m (m.0.tries + 1) m') × (n ≢ 0 → Misses m n m')
 
   -- the journal that the seat has in hand was counted
   abbrev pub counted : Me (Option (Book M C R S g)) (View M C R S) → ℕ → Me (Option (Book M C R S g)) (View M C R S) → Type 0

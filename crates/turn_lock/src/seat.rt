@@ -15,6 +15,8 @@ pub struct Seat<M: Machine> {
     pub(crate) left: u32,
     ghost numbers: { (number ≡ pass.me.0.known.number) × (left ≡ pass.me.0.known.left) },
     ghost rests: { (pass.me.0.stage ≡ Resting) × (pass.me.1 ≡ []) },
+    /// Its own number is none of those that it has yet to give.
+    ghost apart: { 0 < left → number ≡ 0 },
     /// No entry has a number that the seat has yet to give.
     ghost ungiven: { (n : ℕ) → 0 < n → n ≤ pass.me.0.known.left → length (calls_of n pass.me.0.known.seen) ≡ 0 },
 }

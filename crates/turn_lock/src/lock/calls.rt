@@ -3,14 +3,13 @@ ghost use Rattle.std.specs.Prelude.{◌≡◌, ℕ, ◌+◌, ◌-◌, ◌<◌, �
 ghost use Rattle.turn_lock.specs.Numbers.{SameNumbers, HasNoneOf, Gains};
 
 use super::TurnLock;
-use super::turn::answer;
+use super::turn::{answer, wait_for_turn};
 use crate::book::Order;
 use crate::fault::{CallFault, TryFault};
 use crate::machine::{Entry, Machine};
 use crate::seat::Seat;
 use crate::steps::take_turn;
 use std::sync::Wait;
-use std::thread::yield_now;
 
 impl<M: Machine> TurnLock<M> {
     ghost use Rattle.turn_lock.specs.Seats.{IsOf, IsLegalIn, limit_of, known, seen, tries, last_read, own_calls, CallCause, TryCause};
@@ -39,19 +38,14 @@ impl<M: Machine> TurnLock<M> {
     {
         let order = Order::new(cmd)?;
         let top = &self.table.shared;
-        for _ in rt.forever() {
-            if take_turn(top, &mut seat.pass, seat.number) == 0 {
-                return answer(
-                    top,
-                    &mut seat.pass,
-                    seat.number,
-                    self.terms.limit,
-                    order,
-                );
-            }
-            yield_now();
-        }
-        unreachable!()
+        wait_for_turn(rt, top, &mut seat.pass, seat.number);
+        answer(
+            top,
+            &mut seat.pass,
+            seat.number,
+            self.terms.limit,
+            order,
+        )
     }
 
     /// Makes a call if no seat has the turn, and waits for nobody.

@@ -16,6 +16,7 @@ invariant_of-seat g c = let seat = c.args.seat.now in let v = seat.pass.me.0 in 
     let left : new.0.known.left ≡ v.known.left = ap (λ m. m.0.known.left) now in record {
       numbers = (seat.numbers.0 ∙ sym (ap (λ m. m.0.known.number) now), seat.numbers.1 ∙ sym left);
       rests = (ap (λ m. m.0.stage) now, ap (λ m. m.1) now ∙ seat.rests.1);
+      apart = seat.apart;
       ungiven = λ n low high. let within : n ≤ v.known.left = omega arith in ap length (gains_of v.known new.0.known.seen gains n (inr (inl (low, within)))) ∙ seat.ungiven n low within;
     }
 

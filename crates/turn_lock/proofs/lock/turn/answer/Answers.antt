@@ -3,8 +3,10 @@ use Rattle.turn_lock.specs.declared.machine.Entry.{Entry}
 use Rattle.turn_lock.specs.declared.book.Book.{Book}
 use Rattle.turn_lock.specs.declared.view.View.{View}
 use Rattle.turn_lock.specs.declared.view.Stage.TheVariants.{Resting, Holding, Counted}
+use Rattle.turn_lock.specs.History.{calls_of}
 use Rattle.turn_lock.specs.Rule.{HasTurn}
 use Rattle.turn_lock.specs.Plays.{Saw, seeing}
+use Rattle.turn_lock.proofs.Histories.{of_others}
 use Rattle.turn_lock.proofs.Turning.{one_book, grown_entry}
 use Rattle.turn_lock.proofs.lock.turn.answer.Goals as goal
 
@@ -78,9 +80,27 @@ returns-in-Ok-clause-answer g c = let q = c.requires.seat.0 in let slot = c.requ
     let ends : c.free_turn-in-Ok.new.pass.me.0 ≡ seeing c.slot_in-in-Ok.new.pass.me.0 c.enter.new.self.journal.items Resting = ap (λ m. m.0) freed ∙ ap (λ m. record m.0 { stage = Resting }) now in
     let saw = counts.1 c.args.top.now.key (ap (λ v. v.terms) same ∙ q.3) in
     let known : c.count_entry.new.pass.me.0.known ≡ c.free_turn-in-Ok.new.pass.me.0.known = sym (ap (λ m. m.0.known) freed) in (
-      ends ∙ (λ i. seeing (same i) (grown i) Resting),
+      ap (λ v. v.known.seen) ends ∙ grown,
       ap (λ x. x.number) made ∙ ap (λ n. n + 1) size,
       ap (λ x. x.caller) made,
       ap (λ x. x.cmd) made,
       subst (Saw g.M.Machine c.args.top.now.key) known saw,
     )
+
+pub returns-in-Ok-clause-seat : goal.returns-in-Ok-clause-seat
+returns-in-Ok-clause-seat g c = let out = c.slot_out-book.ensures in let back = c.slot_in-in-Ok.ensures in
+    let same : c.slot_in-in-Ok.new.pass.me.0 ≡ c.args.pass.now.me.0 = back.same.1 ∙ out.same.1 in
+    let did = c.count_entry.ensures in let now = (did.1 c.enter.new.self back.slot).0 in let freed = c.free_turn-in-Ok.ensures in
+    let seen : c.free_turn-in-Ok.new.pass.me.0.known.seen ≡ c.enter.new.self.journal.items = ap (λ m. m.0.known.seen) freed.1 ∙ ap (λ m. m.0.known.seen) now in (
+      (freed.0.0 ∙ (did.0.0 ∙ (back.same.0.0 ∙ out.same.0.0)), freed.0.1 ∙ (did.0.1 ∙ (back.same.0.1 ∙ out.same.0.1))),
+      freed.1 ∙ (ap (λ m. (record m.0 { stage = Resting }, [])) now ∙ (λ i. (seeing (same i) (sym seen i) Resting, []))),
+    )
+
+pub returns-in-Ok-clause-others : goal.returns-in-Ok-clause-others
+returns-in-Ok-clause-others g c = let slot = c.requires.slot in let out = c.slot_out-book.ensures in let back = c.slot_in-in-Ok.ensures in
+    let one : slot.0 ≡ c.slot_out-book.result = one_book g.M.Machine c.args.top.now.key _ _ _ slot.1 out.slot.0 in
+    let items : c.slot_out-book.result.journal.items ≡ c.args.pass.now.me.0.known.seen = sym (ap (λ b. b.journal.items) one) ∙ slot.2 in
+    let now = (c.count_entry.ensures.1 c.enter.new.self back.slot).0 in let e = c.in-Ok.entry in
+    let seen : c.free_turn-in-Ok.new.pass.me.0.known.seen ≡ c.args.pass.now.me.0.known.seen ++ e ∷ [] =
+        ap (λ m. m.0.known.seen) c.free_turn-in-Ok.ensures.1 ∙ (ap (λ m. m.0.known.seen) now ∙ (c.in-Ok.ensures.journal ∙ ap (λ x. x ++ e ∷ []) items)) in
+    λ n other. ap (calls_of n) seen ∙ of_others n c.args.pass.now.me.0.known.seen e (λ is. other (sym is ∙ ap (λ x. x.caller) c.in-Ok.ensures.entry))
