@@ -3,3 +3,4 @@ pub mod Gaining
 pub mod Sitting
 pub mod Turning
 pub mod Parting
+pub mod Calling
