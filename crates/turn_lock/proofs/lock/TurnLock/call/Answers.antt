@@ -18,8 +18,8 @@ answer-requires g c = let lock = c.args.self.now in let seat = c.args.seat.now i
       told = (seat.numbers.0 ∙ sym (ap (λ m. m.0.known.number) now), ap (λ t. t.limit) (sym lock.keyed));
     }
 
-pub invariant_of-seat-2 : goal.invariant_of-seat-2
-invariant_of-seat-2 g c = let seat = c.args.seat.now in let turn = c.wait_for_turn.ensures.1.2 in let now = turn.1 in let did = c.answer.ensures in let last = did.seat.1 in
+pub invariant_of-seat : goal.invariant_of-seat
+invariant_of-seat g c = let seat = c.args.seat.now in let turn = c.wait_for_turn.ensures.1.2 in let now = turn.1 in let did = c.answer.ensures in let last = did.seat.1 in
     let number = ap (λ m. m.0.known.number) last ∙ ap (λ m. m.0.known.number) now in let left : c.answer.new.pass.me.0.known.left ≡ seat.pass.me.0.known.left = ap (λ m. m.0.known.left) last ∙ ap (λ m. m.0.known.left) now in
     let held : c.wait_for_turn.new.pass.me.0.known.seen ≡ turn.0.journal.items = ap (λ m. m.0.known.seen) now in record {
       numbers = (seat.numbers.0 ∙ sym number, seat.numbers.1 ∙ sym left);
