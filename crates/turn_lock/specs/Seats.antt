@@ -60,7 +60,14 @@ module _ {M C R S : Type 0} {g : Ghosts M C R S} where
   abbrev pub IsUntried : Seat M C R S g → Seat M C R S g → Type 0
   IsUntried old new = (tries new ≡ tries old) × (last_read new ≡ last_read old)
 
-  -- the lock that a machine and its journal came from
+  -- the machine and the journal of a closed lock
+  abbrev pub machine_of : Booked M C R S g → M
+  machine_of booked = booked.book.machine
+
+  abbrev pub journal_of : Booked M C R S g → List (Entry M C R S)
+  journal_of booked = booked.book.journal.items
+
+  -- the lock that they came from
   abbrev pub closed_id : Booked M C R S g → TableId
   closed_id booked = booked.seat.value.pass.table_id
 

@@ -27,9 +27,10 @@ impl<M: Machine> Order<M> {
 /// A machine and the journal of its calls, with the machine that it began as.
 #[derive(Drop)]
 pub struct Book<M: Machine> {
-    pub machine: M,
-    pub journal: Vec<Entry<M>>,
-    pub start: Snapshot<M>,
+    pub(crate) machine: M,
+    pub(crate) journal: Vec<Entry<M>>,
+    /// The machine at the start, for contracts alone.
+    pub(crate) start: Snapshot<M>,
     /// The machine stands where the journal leaves it.
     pub ghost stands: { M.state machine ≡ state_after M.after (M.state start.value) journal.items },
 }

@@ -15,15 +15,17 @@ pub struct Booked<M: Machine> {
 }
 
 impl<M: Machine> Booked<M> {
+    ghost use Rattle.turn_lock.specs.Seats.{machine_of, journal_of};
+
     pub fn machine(&self) -> &M
-        ensures { result.now ≡ self.now.book.machine }
+        ensures { result.now ≡ machine_of self.now }
     {
         &self.book.machine
     }
 
     /// All entries, in the order of their numbers.
     pub fn journal(&self) -> &[Entry<M>]
-        ensures { result.now ≡ self.now.book.journal.items }
+        ensures { result.now ≡ journal_of self.now }
     {
         self.book.journal.as_slice()
     }

@@ -9,6 +9,8 @@ mod machine;
 mod rule;
 mod seat;
 mod steps;
+#[cfg(test)]
+mod tests;
 mod view;
 
 pub use book::Book;

@@ -16,7 +16,7 @@ use std::alloc::{AllocError, Global};
 use std::snapshot::Snapshot;
 
 impl<M: Machine> TurnLock<M> {
-    ghost use Rattle.turn_lock.specs.Seats.{IsOf, IsUntried, IsLegalIn, lock_id, closed_id, start_of, seats_of, limit_of, known, seen, tries, last_read, own_calls};
+    ghost use Rattle.turn_lock.specs.Seats.{IsOf, IsUntried, IsLegalIn, lock_id, closed_id, machine_of, journal_of, start_of, seats_of, limit_of, known, seen, tries, last_read, own_calls};
 
     /// A lock round a machine, for `seats` seats and a journal of at most `limit` entries, and its first seat.
     /// That one has the number 0 and has yet to give the others.
@@ -113,10 +113,10 @@ impl<M: Machine> TurnLock<M> {
         requires seat { IsOf self seat }
         requires all { (n : ℕ) → n < seats_of self → Has (known seat) n }
         ensures of { closed_id result ≡ lock_id self }
-        ensures journal { result.book.journal.items ≡ seen seat }
+        ensures journal { journal_of result ≡ seen seat }
         ensures legal { IsLegalIn self (seen seat) × (length (seen seat) ≤ limit_of self) }
         ensures callers { All (λ e. e.caller < seats_of self) (seen seat) }
-        ensures machine { M.state result.book.machine ≡ state_after M.after (start_of self) (seen seat) }
+        ensures machine { M.state (machine_of result) ≡ state_after M.after (start_of self) (seen seat) }
     {
         let closing = Snapshot::of(&seat);
         let TurnLock { table, terms: _ } = self;
