@@ -1,5 +1,5 @@
 //! What a caller calls with.
-ghost use Rattle.std.specs.Prelude.{◌≡◌, ℕ, ◌<◌, ◌≤◌, [], length};
+ghost use Rattle.std.specs.Prelude.{◌≡◌, ℕ, ◌<◌, ◌≤◌, [], length, Some};
 ghost use Rattle.turn_lock.specs.History.{calls_of};
 ghost use Rattle.turn_lock.specs.declared.view.Stage.TheVariants.{Resting};
 
@@ -17,6 +17,8 @@ pub struct Seat<M: Machine> {
     ghost rests: { (pass.me.0.stage ≡ Resting) × (pass.me.1 ≡ []) },
     /// Its own number is none of those that it has yet to give.
     ghost apart: { 0 < left → number ≡ 0 },
+    /// It has seen no more entries than the lock's limit.
+    ghost within: { (t : _) → pass.me.0.terms ≡ Some t → length pass.me.0.known.seen ≤ t.limit },
     /// No entry has a number that the seat has yet to give.
     ghost ungiven: { (n : ℕ) → 0 < n → n ≤ pass.me.0.known.left → length (calls_of n pass.me.0.known.seen) ≡ 0 },
 }

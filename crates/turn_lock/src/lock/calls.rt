@@ -24,9 +24,9 @@ impl<M: Machine> TurnLock<M> {
     ) -> Result<Entry<M>, CallFault>
         requires { IsOf self.now seat.old }
         ensures seat { IsOf self.now seat.new × SameNumbers (known seat.old) (known seat.new) }
-        // The history is legal from the lock's start, and not longer than the limit.
+        // The history is legal from the lock's start. No history is longer than the limit.
         ensures legal { OnOk result (IsLegalIn self.now (seen seat.new)) }
-        ensures room { OnOk result (length (seen seat.new) ≤ limit_of self.now) }
+        ensures room { length (seen seat.new) ≤ limit_of self.now }
         // It begins with what the seat had seen and ends with the entry, and none of the entries between is of the seat's numbers.
         ensures grown { IfOk result (λ e. (between : _) × (seen seat.new ≡ (seen seat.old ++ between) ++ e ∷ []) × HasNoneOf (known seat.old) between) }
         ensures entry { IfOk result (λ e. (e.number ≡ length (seen seat.new)) × (e.caller ≡ (known seat.old).number) × (e.cmd ≡ cmd.now)) }
@@ -52,9 +52,9 @@ impl<M: Machine> TurnLock<M> {
     pub fn try_call(&self, seat: &mut Seat<M>, cmd: &M::Cmd) -> Result<Entry<M>, TryFault>
         requires { IsOf self.now seat.old }
         ensures seat { IsOf self.now seat.new × SameNumbers (known seat.old) (known seat.new) }
-        // The history is legal from the lock's start, and not longer than the limit.
+        // The history is legal from the lock's start. No history is longer than the limit.
         ensures legal { OnOk result (IsLegalIn self.now (seen seat.new)) }
-        ensures room { OnOk result (length (seen seat.new) ≤ limit_of self.now) }
+        ensures room { length (seen seat.new) ≤ limit_of self.now }
         // It begins with what the seat had seen and ends with the entry, and none of the entries between is of the seat's numbers.
         ensures grown { IfOk result (λ e. (between : _) × (seen seat.new ≡ (seen seat.old ++ between) ++ e ∷ []) × HasNoneOf (known seat.old) between) }
         ensures entry { IfOk result (λ e. (e.number ≡ length (seen seat.new)) × (e.caller ≡ (known seat.old).number) × (e.cmd ≡ cmd.now)) }

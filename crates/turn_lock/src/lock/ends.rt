@@ -72,6 +72,7 @@ impl<M: Machine> TurnLock<M> {
         ensures old { IsOf self.now seat.new × (known seat.new ≡ record (known seat.old) { left = (known seat.old).left - 1 }) × IsUntried seat.old seat.new }
         ensures new { IsOf self.now result × (known result ≡ record (known seat.old) { number = (known seat.old).left; left = 0; joined = [] }) × (tries result ≡ 0) }
         ensures fresh { own_calls result ≡ [] }
+        ensures room { length (seen result) ≤ limit_of self.now }
     {
         let pass = split_pass(&self.table.shared, &mut seat.pass);
         let number = seat.left;
@@ -91,6 +92,7 @@ impl<M: Machine> TurnLock<M> {
         ensures seat { IsOf self.now seat.new × IsUntried seat.old seat.new }
         ensures numbers { ((known seat.new).number ≡ (known seat.old).number) × ((known seat.new).left ≡ (known seat.old).left) × ((known seat.new).joined ≡ (known seat.old).joined ++ numbers_of (known other)) }
         ensures longer { seen seat.new ≡ longer (seen seat.old) (seen other) }
+        ensures room { length (seen seat.new) ≤ limit_of self.now }
         // Each of the two histories begins it, and all entries of a seat's numbers stand in what that seat had seen.
         ensures this { Gains (known seat.old) (seen seat.new) }
         ensures that { Gains (known other) (seen seat.new) }

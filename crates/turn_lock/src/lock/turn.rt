@@ -45,8 +45,9 @@ pub(crate) fn answer<M: Machine>(
     requires saw { Saw M.Machine top.now.key pass.old.me.0.known }
     requires told { (caller ≡ pass.old.me.0.known.number) × (limit ≡ top.now.key.limit) }
     ensures seat { IsSameSeat pass.old pass.new × (pass.new.me ≡ (seeing pass.old.me.0 pass.new.me.0.known.seen Resting, [])) }
-    ensures answer { IfOk result (λ e. (pass.new.me.0.known.seen ≡ pass.old.me.0.known.seen ++ e ∷ []) × (e.number ≡ length pass.old.me.0.known.seen + 1) × (e.caller ≡ caller) × (e.cmd ≡ order.kept) × Saw M.Machine top.now.key pass.new.me.0.known) }
+    ensures answer { IfOk result (λ e. (pass.new.me.0.known.seen ≡ pass.old.me.0.known.seen ++ e ∷ []) × (e.number ≡ length pass.old.me.0.known.seen + 1) × (e.caller ≡ caller) × (e.cmd ≡ order.kept)) }
     ensures refused { OnErr result (pass.new.me.0.known.seen ≡ pass.old.me.0.known.seen) }
+    ensures saw { Saw M.Machine top.now.key pass.new.me.0.known }
     // No other caller's entry is made.
     ensures others { (n : ℕ) → n ≢ caller → calls_of n pass.new.me.0.known.seen ≡ calls_of n pass.old.me.0.known.seen }
     ensures cause { IfErr result (Refuses limit (length pass.old.me.0.known.seen)) }

@@ -77,15 +77,22 @@ returns-in-Ok-clause-answer g c = let q = c.requires.seat.0 in let slot = c.requ
     let did = c.count_entry.ensures in let counts = did.1 c.enter.new.self back.slot in let now = counts.0 in let freed = c.free_turn-in-Ok.ensures.1 in
     let e = c.in-Ok.entry in let made = c.in-Ok.ensures.entry in
     let grown : c.enter.new.self.journal.items ≡ c.args.pass.now.me.0.known.seen ++ e ∷ [] = c.in-Ok.ensures.journal ∙ ap (λ x. x ++ e ∷ []) items in
-    let ends : c.free_turn-in-Ok.new.pass.me.0 ≡ seeing c.slot_in-in-Ok.new.pass.me.0 c.enter.new.self.journal.items Resting = ap (λ m. m.0) freed ∙ ap (λ m. record m.0 { stage = Resting }) now in
-    let saw = counts.1 c.args.top.now.key (ap (λ v. v.terms) same ∙ q.3) in
-    let known : c.count_entry.new.pass.me.0.known ≡ c.free_turn-in-Ok.new.pass.me.0.known = sym (ap (λ m. m.0.known) freed) in (
+    let ends : c.free_turn-in-Ok.new.pass.me.0 ≡ seeing c.slot_in-in-Ok.new.pass.me.0 c.enter.new.self.journal.items Resting = ap (λ m. m.0) freed ∙ ap (λ m. record m.0 { stage = Resting }) now in (
       ap (λ v. v.known.seen) ends ∙ grown,
       ap (λ x. x.number) made ∙ ap (λ n. n + 1) size,
       ap (λ x. x.caller) made,
       ap (λ x. x.cmd) made,
-      subst (Saw g.M.Machine c.args.top.now.key) known saw,
     )
+
+pub returns-in-Ok-clause-saw : goal.returns-in-Ok-clause-saw
+returns-in-Ok-clause-saw g c = let back = c.slot_in-in-Ok.ensures in let counts = c.count_entry.ensures.1 c.enter.new.self back.slot in
+    let same : c.slot_in-in-Ok.new.pass.me.0 ≡ c.args.pass.now.me.0 = back.same.1 ∙ c.slot_out-book.ensures.same.1 in
+    let known : c.count_entry.new.pass.me.0.known ≡ c.free_turn-in-Ok.new.pass.me.0.known = sym (ap (λ m. m.0.known) c.free_turn-in-Ok.ensures.1) in
+    subst (Saw g.M.Machine c.args.top.now.key) known (counts.1 c.args.top.now.key (ap (λ v. v.terms) same ∙ c.requires.seat.0.3))
+
+pub returns-in-Err-clause-saw : goal.returns-in-Err-clause-saw
+returns-in-Err-clause-saw g c = let same : c.slot_in-in-Err.new.pass.me.0 ≡ c.args.pass.now.me.0 = c.slot_in-in-Err.ensures.same.1 ∙ c.slot_out-book.ensures.same.1 in
+    subst (Saw g.M.Machine c.args.top.now.key) (sym (ap (λ m. m.0.known) c.free_turn-in-Err.ensures.1 ∙ ap (λ v. v.known) same)) c.requires.saw
 
 pub returns-in-Ok-clause-seat : goal.returns-in-Ok-clause-seat
 returns-in-Ok-clause-seat g c = let out = c.slot_out-book.ensures in let back = c.slot_in-in-Ok.ensures in
