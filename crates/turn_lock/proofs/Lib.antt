@@ -4,3 +4,4 @@ pub mod Sitting
 pub mod Turning
 pub mod Parting
 pub mod Calling
+pub mod Crossing

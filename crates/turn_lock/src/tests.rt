@@ -1,5 +1,6 @@
-ghost use Rattle.std.specs.Prelude.{◌≡◌, ◌+◌, ◌%◌, ◌^◌, ◌<◌, [], length, IfOk, IfSome};
-ghost use Rattle.turn_lock.specs.Seats.{IsOf, known, seats_of, limit_of, seen};
+ghost use Rattle.std.specs.Prelude.{◌+◌, ◌%◌, ◌^◌};
+ghost use Rattle.turn_lock.specs.Numbers.{SameNumbers};
+ghost use Rattle.turn_lock.specs.Seats.{IsOf, known};
 
 use super::*;
 use std::alloc::{AllocError, Global};
@@ -162,7 +163,7 @@ const CALLS: u64 = 1000;
 /// Adds the numbers below `CALLS`, each with the caller's mark.
 fn add_all<R: Wait>(rt: &R, lock: &TurnLock<Tally>, mut seat: Seat<Tally>) -> Seat<Tally>
     requires { IsOf lock.now seat }
-    ensures { IsOf lock.now result × ((known result).number ≡ (known seat).number) × ((known result).left ≡ (known seat).left) × ((known result).joined ≡ (known seat).joined) }
+    ensures { IsOf lock.now result × SameNumbers (known seat) (known result) }
 {
     let mark = u64::from(seat.number());
     for n in 0..CALLS {
@@ -171,8 +172,32 @@ fn add_all<R: Wait>(rt: &R, lock: &TurnLock<Tally>, mut seat: Seat<Tally>) -> Se
     seat
 }
 
+/// Two callers at once.
+fn add_both<R: Threads + Wait + Sync>(
+    rt: &R,
+    lock: &TurnLock<Tally>,
+    one: Seat<Tally>,
+    two: Seat<Tally>,
+) -> (Seat<Tally>, Seat<Tally>)
+    requires { IsOf lock.now one × IsOf lock.now two }
+    ensures one { IsOf lock.now result.0 × SameNumbers (known one) (known result.0) }
+    ensures two { IsOf lock.now result.1 × SameNumbers (known two) (known result.1) }
+{
+    join(
+        rt,
+        || -> Seat<Tally>
+            requires { IsOf lock.now one }
+            ensures { IsOf lock.entry.now result × SameNumbers (known one.entry) (known result) }
+        { add_all(rt, lock, one) },
+        || -> Seat<Tally>
+            requires { IsOf lock.now two }
+            ensures { IsOf lock.entry.now result × SameNumbers (known two.entry) (known result) }
+        { add_all(rt, lock, two) },
+    )
+}
+
 /// Whether the journal has each caller's calls once and in order, and each reply is the total before it.
-fn is_whole(journal: &[Entry<Tally>], callers: u64) -> bool {
+fn is_whole(journal: &[Entry<Tally>]) -> bool {
     let mut total = 0u64;
     let mut next = [0u64; 4];
     for (at, entry) in journal.iter().enumerate() {
@@ -180,13 +205,13 @@ fn is_whole(journal: &[Entry<Tally>], callers: u64) -> bool {
         if entry.number as usize != at + 1 || entry.reply != total || caller >= 4 {
             return false;
         }
-        if entry.cmd != (caller as u64) * 1_000_000 + next[caller] {
+        if entry.cmd != (caller as u64 * 1_000_000).wrapping_add(next[caller]) {
             return false;
         }
         next[caller] = next[caller].wrapping_add(1);
         total = total.wrapping_add(entry.cmd);
     }
-    journal.len() as u64 == callers * CALLS
+    journal.len() as u64 == 4 * CALLS
 }
 
 #[test]
@@ -197,13 +222,13 @@ fn four_threads_make_one_history(rt: HostRuntime) -> Result<(), Fail> {
     let one = lock.split(&mut zero);
     let ((mut zero, one), (two, three)) = join(
         &rt,
-        || join(&rt, || add_all(&rt, &lock, zero), || add_all(&rt, &lock, one)),
-        || join(&rt, || add_all(&rt, &lock, two), || add_all(&rt, &lock, three)),
+        || add_both(&rt, &lock, zero, one),
+        || add_both(&rt, &lock, two, three),
     );
     lock.join(&mut zero, one);
     lock.join(&mut zero, two);
     lock.join(&mut zero, three);
     let booked = lock.close(zero);
-    assert!(rt; is_whole(booked.journal(), 4));
+    assert!(rt; is_whole(booked.journal()));
     Ok(())
 }
