@@ -187,11 +187,11 @@ fn add_both<R: Threads + Wait + Sync>(
         rt,
         || -> Seat<Tally>
             requires { IsOf lock.now one }
-            ensures { IsOf lock.entry.now result × SameNumbers (known one.entry) (known result) }
+            ensures { IsOf lock.entry.now result × SameNumbers (known one) (known result) }
         { add_all(rt, lock, one) },
         || -> Seat<Tally>
             requires { IsOf lock.now two }
-            ensures { IsOf lock.entry.now result × SameNumbers (known two.entry) (known result) }
+            ensures { IsOf lock.entry.now result × SameNumbers (known two) (known result) }
         { add_all(rt, lock, two) },
     )
 }
