@@ -5,3 +5,4 @@ pub mod Turning
 pub mod Parting
 pub mod Calling
 pub mod Crossing
+pub mod Joined

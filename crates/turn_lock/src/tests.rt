@@ -1,6 +1,6 @@
-ghost use Rattle.std.specs.Prelude.{◌+◌, ◌%◌, ◌^◌};
+ghost use Rattle.std.specs.Prelude.{◌≡◌, ◌+◌, ◌%◌, ◌^◌};
 ghost use Rattle.turn_lock.specs.Numbers.{SameNumbers};
-ghost use Rattle.turn_lock.specs.Seats.{IsOf, known};
+ghost use Rattle.turn_lock.specs.Seats.{IsOf, known, seats_of};
 
 use super::*;
 use std::alloc::{AllocError, Global};
@@ -214,21 +214,35 @@ fn is_whole(journal: &[Entry<Tally>]) -> bool {
     journal.len() as u64 == 4 * CALLS
 }
 
+/// Joins four seats and closes the lock.
+fn close_all(
+    lock: TurnLock<Tally>,
+    mut zero: Seat<Tally>,
+    one: Seat<Tally>,
+    two: Seat<Tally>,
+    three: Seat<Tally>,
+) -> Booked<Tally>
+    requires seats { (seats_of lock ≡ 4) × IsOf lock zero × IsOf lock one × IsOf lock two × IsOf lock three }
+    requires numbers { ((known zero).number ≡ 0) × ((known one).number ≡ 1) × ((known two).number ≡ 2) × ((known three).number ≡ 3) }
+{
+    lock.join(&mut zero, one);
+    lock.join(&mut zero, two);
+    lock.join(&mut zero, three);
+    lock.close(zero)
+}
+
 #[test]
 fn four_threads_make_one_history(rt: HostRuntime) -> Result<(), Fail> {
     let (lock, mut zero) = TurnLock::new(rt.alloc(), Tally { total: 0 }, 4, 1_000_000)?;
     let three = lock.split(&mut zero);
     let two = lock.split(&mut zero);
     let one = lock.split(&mut zero);
-    let ((mut zero, one), (two, three)) = join(
+    let ((zero, one), (two, three)) = join(
         &rt,
         || add_both(&rt, &lock, zero, one),
         || add_both(&rt, &lock, two, three),
     );
-    lock.join(&mut zero, one);
-    lock.join(&mut zero, two);
-    lock.join(&mut zero, three);
-    let booked = lock.close(zero);
+    let booked = close_all(lock, zero, one, two, three);
     assert!(rt; is_whole(booked.journal()));
     Ok(())
 }
