@@ -1,10 +1,9 @@
 -- What a call leaves a seat with.
-use Rattle.std.proofs.Common.{◌≡◌, ◌≢◌, ℕ, ◌+◌, ◌<◌, ◌≤◌, List, [], ◌∷◌, ◌++◌, length, Option, Some, refl, sym, ap, ◌∙◌, subst, arith, inl, inr, append_assoc, append-nil, length-append}
-use Rattle.turn_lock.specs.declared.machine.Machine.{Ghosts}
+use Rattle.std.proofs.Common.{◌≡◌, ◌≢◌, ℕ, ◌+◌, ◌<◌, ◌≤◌, List, [], ◌∷◌, ◌++◌, length, refl, sym, ap, ◌∙◌, arith, inl, inr, length-append}
 use Rattle.turn_lock.specs.declared.machine.Entry.{Entry}
 use Rattle.turn_lock.specs.declared.view.Known.{Known}
 use Rattle.turn_lock.specs.History.{calls_of}
-use Rattle.turn_lock.specs.Numbers.{Has, HasNoneOf, Gains}
+use Rattle.turn_lock.specs.Numbers.{HasNoneOf, Gains}
 use Rattle.turn_lock.proofs.Histories.{of_own}
 use Rattle.turn_lock.proofs.Gaining.{gains_of}
 

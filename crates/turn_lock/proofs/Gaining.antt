@@ -1,11 +1,11 @@
 -- What a history gains beyond what a seat has seen, and the numbers of two seats.
-use Rattle.std.proofs.Common.{◌≡◌, ◌≢◌, ℕ, zero, suc, ◌+◌, ◌<◌, ◌≤◌, List, [], ◌∷◌, ◌++◌, length, Bool, true, false, cond, eqb, nat_lt, Contains, refl, sym, ap, ◌∙◌, subst, arith, append_assoc, append-nil, ◌⊎◌, inl, inr, ⊎_elim}
+use Rattle.std.proofs.Common.{◌≡◌, ℕ, zero, suc, ◌<◌, ◌≤◌, List, [], ◌∷◌, ◌++◌, length, Bool, true, false, cond, eqb, nat_lt, Contains, refl, sym, ap, ◌∙◌, arith, append_assoc, append-nil, ◌⊎◌, inl, inr, ⊎_elim}
 use Rattle.std.proofs.lemmas.List.Elements.{Contains-append_cases, filter-append}
 use Rattle.std.proofs.lemmas.Bool.Decides.{nat_tests}
 use Rattle.turn_lock.specs.declared.machine.Entry.{Entry}
 use Rattle.turn_lock.specs.declared.view.Known.{Known}
 use Rattle.turn_lock.specs.History.{calls_of}
-use Rattle.turn_lock.specs.Numbers.{one_to, IsUngiven, Has, HasNoneOf, Gains, numbers_of}
+use Rattle.turn_lock.specs.Numbers.{one_to, Has, HasNoneOf, Gains, numbers_of}
 use Rattle.turn_lock.specs.Rule.{longer, both}
 use Rattle.turn_lock.proofs.Histories.{shorter_begins, of_both, of_left, of_right}
 

@@ -1,26 +1,25 @@
 -- Making, splitting, joining and closing keep the rule.
-use Rattle.std.proofs.Common.{◌≡◌, ◌≢◌, ℕ, zero, suc, ◌+◌, ◌-◌, ◌^◌, ◌<◌, ◌≤◌, List, [], ◌∷◌, ◌++◌, length, get_or, set, eqb, cond, All, Contains, Option, Some, None, refl, sym, ap, ◌∙◌, subst, arith, append-nil, ◌⊎◌, inl, inr, ⊎_elim, length-set, eq-eqb, ne_eqb}
+use Rattle.std.proofs.Common.{◌≡◌, ◌≢◌, ℕ, zero, suc, ◌^◌, ◌<◌, ◌≤◌, List, [], ◌∷◌, ◌++◌, length, set, eqb, cond, All, Contains, Option, Some, None, refl, sym, ap, ◌∙◌, subst, arith, append-nil, inl, inr, ⊎_elim, length-set, eq-eqb, ne_eqb}
 use Rattle.std.proofs.lemmas.List.Elements.{Contains-append_cases}
 use mathlib.Core.Logic.{dite}
 use native.Mathlib.Decide.{ℕ_discrete}
-use mathlib.Core.Option.{some, none, some-ne-none, some-injective}
+use mathlib.Core.Option.{some, some-ne-none, some-injective}
 use lib.ListN.{get_elem?}
 use Rattle.atomic_table.specs.Table.{State, Splits, Joins, opening, Final, Seen}
-use Rattle.atomic_table.proofs.Lists.{at_set, set_else, at_longer}
+use Rattle.atomic_table.proofs.Lists.{set_else, at_longer}
 use Rattle.turn_lock.specs.declared.machine.Machine.{Ghosts}
 use Rattle.turn_lock.specs.declared.machine.Entry.{Entry}
 use Rattle.turn_lock.specs.declared.book.Book.{Book}
 use Rattle.turn_lock.specs.declared.view.Terms.{Terms}
 use Rattle.turn_lock.specs.declared.view.Known.{Known}
 use Rattle.turn_lock.specs.declared.view.View.{View}
-use Rattle.turn_lock.specs.declared.view.Stage.{Stage}
-use Rattle.turn_lock.specs.declared.view.Stage.TheVariants.{Resting, Holding, Counted, Met}
+use Rattle.turn_lock.specs.declared.view.Stage.TheVariants.{Resting}
 use Rattle.turn_lock.specs.History.{calls_of, IsLegal}
-use Rattle.turn_lock.specs.Numbers.{IsUngiven, Has, Gains, numbers_of}
-use Rattle.turn_lock.specs.Rule.{HasTurn, Belongs, AtStage, Sits, Held, Kept, first_view, spent_view, giving_view, given_view, both, joined_view}
-use Rattle.turn_lock.proofs.Histories.{set_there, at_end, all_left}
+use Rattle.turn_lock.specs.Numbers.{Has, numbers_of}
+use Rattle.turn_lock.specs.Rule.{AtStage, Sits, Kept, first_view, spent_view, giving_view, given_view, joined_view}
+use Rattle.turn_lock.proofs.Histories.{at_end}
 use Rattle.turn_lock.proofs.Gaining.{not_in_empty, in_numbers, gains_itself, gains_both}
-use Rattle.turn_lock.proofs.Sitting.{seats, same_terms, owns, below, renames, not_resting, held_else}
+use Rattle.turn_lock.proofs.Sitting.{seats, owns, below, renames, not_resting, held_else}
 
 -- f, with y at the place k
 put : (ℕ → ℕ) → ℕ → ℕ → ℕ → ℕ
@@ -220,8 +219,8 @@ module _ {M C R S : Type 0} (g : Ghosts M C R S) (t : Terms M C R S) where
   closes id v words slots of rests every (s, seen, same_words, size, values) =
       let r = seen.0 in let at = seen.1 in let mine = r.each id v at t of in let idle = not_resting t v.stage rests in
       let is_free : r.turn ≡ 0 = dite (ℕ_discrete r.turn 0) (λ e. e)
-          (λ e. let x = r.held (omega arith) in let theirs = r.each x.0 x.1 x.2 t x.3 in let low = theirs.own.2 in
-          absurd (held_else t r.turn s.views id v at idle x (sym theirs.own.0 ∙ owns t r.history r.owner r.kind r.turn id v mine x.1.known.number (every x.1.known.number low)))) in
+      (λ e. let x = r.held (omega arith) in let theirs = r.each x.0 x.1 x.2 t x.3 in let low = theirs.own.2 in
+      absurd (held_else t r.turn s.views id v at idle x (sym theirs.own.0 ∙ owns t r.history r.owner r.kind r.turn id v mine x.1.known.number (every x.1.known.number low)))) in
       let home = r.free is_free in let more = mine.gains.0 in let split : r.history ≡ v.known.seen ++ more = mine.gains.1 in
       let few : All (λ (e : Entry M C R S). e.caller < t.seats) (v.known.seen ++ more) = subst (All (λ (e : Entry M C R S). e.caller < t.seats)) split r.callers in
       let done : more ≡ [] = nobody_left t.seats more (all_right (λ (e : Entry M C R S). e.caller < t.seats) v.known.seen more few) (λ n l. mine.gains.2 n (every n l)) in

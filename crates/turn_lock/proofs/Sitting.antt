@@ -1,23 +1,16 @@
 -- The rule's parts under a step of one seat.
-use Rattle.std.proofs.Common.{◌≡◌, ◌≢◌, ℕ, zero, suc, ◌+◌, ◌<◌, ◌≤◌, List, [], ◌∷◌, ◌++◌, length, get_or, set, eqb, cond, Contains, Option, Some, None, refl, sym, ap, ◌∙◌, subst, arith, append-nil, ◌⊎◌, inl, inr, ⊎_elim, length-set, eq-eqb, ne_eqb, unwrap_or}
-use mathlib.Core.Logic.{dite}
-use native.Mathlib.Decide.{ℕ_discrete}
-use mathlib.Core.Option.{some, some-ne-none, some-injective}
+use Rattle.std.proofs.Common.{◌≡◌, ◌≢◌, ℕ, ◌+◌, ◌<◌, List, set, Option, Some, sym, ap, ◌∙◌, subst, inl, inr, ⊎_elim, unwrap_or}
+use mathlib.Core.Option.{some, some-injective}
 use lib.ListN.{get_elem?}
-use lib.Seq.{set-get_or}
-use Rattle.atomic_table.specs.Table.{State}
 use Rattle.atomic_table.proofs.Lists.{at_set, set_else}
-use Rattle.turn_lock.specs.declared.machine.Machine.{Ghosts}
 use Rattle.turn_lock.specs.declared.machine.Entry.{Entry}
-use Rattle.turn_lock.specs.declared.book.Book.{Book}
 use Rattle.turn_lock.specs.declared.view.Terms.{Terms}
 use Rattle.turn_lock.specs.declared.view.Known.{Known}
 use Rattle.turn_lock.specs.declared.view.View.{View}
 use Rattle.turn_lock.specs.declared.view.Stage.{Stage}
 use Rattle.turn_lock.specs.declared.view.Stage.TheVariants.{Resting, Holding, Counted, Met}
-use Rattle.turn_lock.specs.Numbers.{IsUngiven, Has, Gains}
-use Rattle.turn_lock.specs.Rule.{HasTurn, Belongs, AtStage, Sits, Held, Kept}
-use Rattle.turn_lock.proofs.Histories.{set_there}
+use Rattle.turn_lock.specs.Numbers.{Has, Gains}
+use Rattle.turn_lock.specs.Rule.{HasTurn, AtStage, Sits, Held}
 
 module _ {M C R S : Type 0} (t : Terms M C R S) where
   abbrev V : Type 0

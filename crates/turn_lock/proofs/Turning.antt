@@ -1,29 +1,27 @@
 -- The steps that take, count and free the turn, and the loads, keep the rule.
-use Rattle.std.proofs.Common.{◌≡◌, ◌≢◌, ℕ, zero, suc, ◌+◌, ◌%◌, ◌^◌, ◌<◌, ◌≤◌, List, [], ◌∷◌, ◌++◌, length, get_or, set, eqb, cond, All, Option, Some, None, refl, sym, ap, ◌∙◌, subst, arith, append-nil, ◌⊎◌, inl, inr, ⊎_elim, length-set, length-append, eq-eqb, ne_eqb, unwrap_or}
+use Rattle.std.proofs.Common.{◌≡◌, ℕ, ◌+◌, ◌%◌, ◌^◌, ◌<◌, ◌≤◌, List, [], ◌∷◌, ◌++◌, length, get_or, set, eqb, All, Option, Some, refl, sym, ap, ◌∙◌, subst, arith, length-set, length-append, eq-eqb, ne_eqb, unwrap_or}
 use Rattle.std.proofs.lemmas.List.Elements.{All-append}
 use mathlib.Core.Logic.{dite}
 use native.Mathlib.Decide.{ℕ_discrete}
-use mathlib.Core.Option.{some, none, some-ne-none, some-injective}
-use mathlib.Core.Option as maybe
+use mathlib.Core.Option.{some, none}
 use lib.ListN.{get_elem?}
 use lib.Seq.{set-get_or}
 use prog.Atomic.{either}
-use Rattle.atomic_table.specs.Table.{State, Me, Act, keeps, takes, gives, rest, put_back, stepped, carried_after, homes_after, Allows, opening}
+use Rattle.atomic_table.specs.Table.{State, Me, keeps, takes, gives, rest, put_back, stepped, Allows}
 use Rattle.turn_lock.specs.declared.machine.Machine.{Ghosts}
 use Rattle.turn_lock.specs.declared.machine.Entry.{Entry}
 use Rattle.turn_lock.specs.declared.book.Book.{Book}
 use Rattle.turn_lock.specs.declared.view.Terms.{Terms}
 use Rattle.turn_lock.specs.declared.view.Known.{Known}
 use Rattle.turn_lock.specs.declared.view.View.{View}
-use Rattle.turn_lock.specs.declared.view.Stage.{Stage}
 use Rattle.turn_lock.specs.declared.view.Stage.TheVariants.{Resting, Holding, Counted, Met}
 use Rattle.turn_lock.specs.History.{entry, state_after, calls_of, IsLegal}
-use Rattle.turn_lock.specs.Numbers.{IsUngiven, Has, Gains}
-use Rattle.turn_lock.specs.Rule.{HasTurn, Belongs, AtStage, Sits, Held, Kept}
-use Rattle.turn_lock.specs.Plays.{Saw, seeing, tried, Turns, Misses, took, counted, freed, loaded, compared}
+use Rattle.turn_lock.specs.Numbers.{Has, Gains}
+use Rattle.turn_lock.specs.Rule.{HasTurn, AtStage, Sits, Kept}
+use Rattle.turn_lock.specs.Plays.{Saw, seeing, tried, took, counted, freed, loaded, compared}
 use Rattle.turn_lock.proofs.Histories.{set_there, only_one, all_one, legal_snoc, not_of, of_both}
 use Rattle.turn_lock.proofs.Gaining.{gains_itself, gains_more, gains_longer}
-use Rattle.turn_lock.proofs.Sitting.{seats, same_terms, owns, at_turn, turn_of, moves, not_resting, not_met, held_else, held_by_other}
+use Rattle.turn_lock.proofs.Sitting.{seats, same_terms, at_turn, turn_of, moves, not_resting, not_met, held_else, held_by_other}
 
 module _ {M C R S : Type 0} (g : Ghosts M C R S) (t : Terms M C R S) where
   abbrev V : Type 0
@@ -134,8 +132,13 @@ module _ {M C R S : Type 0} (g : Ghosts M C R S) (t : Terms M C R S) where
           h.2,
           subst (λ x. Rule (stepped s 1 (either x (number + 1) n) id me.1 w (takes 0 (Some b)))) (sym (eq-eqb n 0 none_has)) h.1,
           (
-            (λ _. (b, refl, subst (Gains me.0.known) (sym h.3) mine.gains, λ u of'. let same = same_terms t me.0.terms u of of' in
-            subst (λ (z : Terms M C R S). (b.start.value ≡ z.start.value) × Saw g z w.known) same (h.4, sees s r w.known h.3))),
+            (λ _. (
+              b,
+              refl,
+              subst (Gains me.0.known) (sym h.3) mine.gains,
+              λ u of'. let same = same_terms t me.0.terms u of of' in
+                  subst (λ (z : Terms M C R S). (b.start.value ≡ z.start.value) × Saw g z w.known) same (h.4, sees s r w.known h.3),
+            )),
             λ some_has. absurd (some_has none_has),
           ),
         ))
@@ -163,7 +166,7 @@ module _ {M C R S : Type 0} (g : Ghosts M C R S) (t : Terms M C R S) where
         let one_more : (n + 1) % 18446744073709551616 ≡ length h = omega arith in
         let back : (P : H → Type 0) → P (r.history ++ e ∷ []) → P h = λ P. subst P (sym now) in
         let legal : IsLegal g.reply g.after (g.state t.start.value) h = back (IsLegal g.reply g.after (g.state t.start.value))
-            (legal_snoc g.reply g.after 0 (g.state t.start.value) r.history e r.legal (omega arith) (ap (λ x. g.reply (state_after g.after (g.state t.start.value) x) c) stage.1)) in
+        (legal_snoc g.reply g.after 0 (g.state t.start.value) r.history e r.legal (omega arith) (ap (λ x. g.reply (state_after g.after (g.state t.start.value) x) c) stage.1)) in
         let new : Rule (stepped s 0 ((n + 1) % 2 ^ 64) id me.1 w keeps) = record {
           history = h;
           owner = r.owner;
@@ -201,6 +204,7 @@ module _ {M C R S : Type 0} (g : Ghosts M C R S) (t : Terms M C R S) where
           λ b' carried'. let same : b ≡ b' = one_book me.1 b b' carried carried' in
               (ap (λ (z : B). (seeing me.0 z.journal.items Counted, me.1)) same, λ u of'. subst (λ (z : Terms M C R S). Saw g z w.known) (same_terms t me.0.terms u of of') record { legal = legal; within = (omega arith, fit) }),
         )
+
     pub frees : (b : B) → HasTurn me.0.stage → me.1 ≡ (0, Some b) ∷ [] → b.journal.items ≡ me.0.known.seen → b.start.value ≡ t.start.value → Allows Rule slots id me 1 (λ _. 0) (λ _. freed me 0)
     frees b has carried same_journal same_start s r deep at fits =
         let k : Known M C R S = me.0.known in let mine = sits s r at in let stage = at_turn t r.history r.owner r.kind r.turn id k me.0.stage has mine.stage in
@@ -258,7 +262,7 @@ module _ {M C R S : Type 0} (g : Ghosts M C R S) (t : Terms M C R S) where
       (
         refl,
         λ x y is. let p = subst (AtStage t r.history r.owner r.kind r.turn id me.0.known) is mine.stage in let q = gains_longer x y r.history p.0.0 p.1.0 in
-        subst (λ (h : H). Gains x h × Gains y h) (sym p.2) q,
+            subst (λ (h : H). Gains x h × Gains y h) (sym p.2) q,
       ),
     )
 

@@ -13,8 +13,8 @@ use Rattle.turn_lock.specs.declared.view.Stage.{Stage}
 use Rattle.turn_lock.specs.declared.view.Stage.TheVariants.{Resting, Holding, Counted, Met}
 use Rattle.turn_lock.specs.declared.fault.CallFault.{CallFault}
 use Rattle.turn_lock.specs.declared.fault.CallFault.TheVariants.{JournalFull, NoMemory}
-use Rattle.turn_lock.specs.History.{calls_of, IsLegal}
-use Rattle.turn_lock.specs.Numbers.{IsUngiven, Gains}
+use Rattle.turn_lock.specs.History.{IsLegal}
+use Rattle.turn_lock.specs.Numbers.{Gains}
 
 module _ {M C R S : Type 0} where
   -- what a seat learns of the history that it sees: it is legal, and no longer than the limit

@@ -6,6 +6,7 @@ use std::alloc::AllocError;
 /// A machine that answers commands one at a time.
 pub trait Machine: Drop {
     type Cmd: Drop;
+
     type Reply: Drop;
 
     /// What a machine is in, as contracts see it. No value of it is made.

@@ -1,7 +1,6 @@
 //! The eight kinds of atomic step: take the turn, slot out, slot in, count, turn free, load the count, split and join.
 //! Slot out and slot in are what a seat does with the slot that it takes with the turn and gives back with it.
 ghost use Rattle.std.specs.Prelude.{◌≡◌, ℕ, ◌+◌, ◌<◌, ◌≤◌, [], ◌∷◌, ◌++◌, length, None, Some};
-
 ghost use Rattle.turn_lock.specs.declared.view.Stage.TheVariants.{Resting, Holding, Met};
 ghost use Rattle.turn_lock.specs.History.{entry, state_after};
 ghost use Rattle.turn_lock.specs.Rule.{HasTurn, giving_view, given_view, joined_view};

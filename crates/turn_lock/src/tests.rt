@@ -19,7 +19,9 @@ struct Tally {
 
 impl Machine for Tally {
     type Cmd = u64;
+
     type Reply = u64;
+
     type State = u64;
 
     ghost state = { λ m. m.total };
@@ -43,18 +45,27 @@ impl Machine for Tally {
 fn two_seats_make_one_journal(rt: HostRuntime) -> Result<(), Fail> {
     let (lock, mut first) = TurnLock::new(rt.alloc(), Tally { total: 5 }, 2, 10)?;
     let entry = lock.call(&rt, &mut first, &3)?;
-    assert_eq!(rt; (entry.number, entry.caller, entry.cmd, entry.reply), (1, 0, 3, 5));
+    assert_eq!(rt;
+        (entry.number, entry.caller, entry.cmd, entry.reply),
+        (1, 0, 3, 5)
+    );
     let mut second = lock.split(&mut first);
     assert_eq!(rt; (first.left(), second.number()), (0, 1));
     let entry = lock.try_call(&mut second, &4)?;
-    assert_eq!(rt; (entry.number, entry.caller, entry.cmd, entry.reply), (2, 1, 4, 8));
+    assert_eq!(rt;
+        (entry.number, entry.caller, entry.cmd, entry.reply),
+        (2, 1, 4, 8)
+    );
     assert_eq!(rt; lock.count(&mut second), 2);
     lock.join(&mut first, second);
     let booked = lock.close(first);
     assert_eq!(rt; booked.machine().total, 12);
     assert_eq!(rt; booked.journal().len(), 2);
     let last = &booked.journal()[1];
-    assert_eq!(rt; (last.number, last.caller, last.cmd, last.reply), (2, 1, 4, 8));
+    assert_eq!(rt;
+        (last.number, last.caller, last.cmd, last.reply),
+        (2, 1, 4, 8)
+    );
     Ok(())
 }
 
@@ -62,7 +73,12 @@ fn two_seats_make_one_journal(rt: HostRuntime) -> Result<(), Fail> {
 fn a_full_journal_refuses_and_keeps_the_machine(rt: HostRuntime) -> Result<(), Fail> {
     let (lock, mut seat) = TurnLock::new(rt.alloc(), Tally { total: 0 }, 1, 1)?;
     lock.call(&rt, &mut seat, &7)?;
-    assert!(rt; matches!(lock.call(&rt, &mut seat, &1), Err(CallFault::JournalFull(1))));
+    assert!(rt;
+        matches!(
+            lock.call(&rt, &mut seat, &1),
+            Err(CallFault::JournalFull(1))
+        )
+    );
     assert!(rt; matches!(lock.try_call(&mut seat, &1), Err(TryFault::JournalFull(1))));
     let booked = lock.close(seat);
     assert_eq!(rt; (booked.machine().total, booked.journal().len()), (7, 1));
@@ -85,7 +101,9 @@ struct Patient {
 
 impl Machine for Patient {
     type Cmd = u64;
+
     type Reply = u64;
+
     type State = ();
 
     ghost state = { λ _. tt };

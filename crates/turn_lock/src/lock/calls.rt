@@ -39,13 +39,7 @@ impl<M: Machine> TurnLock<M> {
         let order = Order::new(cmd)?;
         let top = &self.table.shared;
         wait_for_turn(rt, top, &mut seat.pass, seat.number);
-        answer(
-            top,
-            &mut seat.pass,
-            seat.number,
-            self.terms.limit,
-            order,
-        )
+        answer(top, &mut seat.pass, seat.number, self.terms.limit, order)
     }
 
     /// Makes a call if no seat has the turn, and waits for nobody.
@@ -71,13 +65,7 @@ impl<M: Machine> TurnLock<M> {
         if found != 0 {
             return Err(TryFault::Held(found as u32));
         }
-        match answer(
-            top,
-            &mut seat.pass,
-            seat.number,
-            self.terms.limit,
-            order,
-        ) {
+        match answer(top, &mut seat.pass, seat.number, self.terms.limit, order) {
             Ok(entry) => Ok(entry),
             Err(CallFault::JournalFull(limit)) => Err(TryFault::JournalFull(limit)),
             Err(CallFault::NoMemory) => Err(TryFault::NoMemory),

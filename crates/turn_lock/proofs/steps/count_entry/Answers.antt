@@ -1,5 +1,5 @@
-use Rattle.std.proofs.Common.{rules, refl, ap}
-use Rattle.turn_lock.proofs.Turning.{takes_turn, counts, frees, loads, compares}
+use Rattle.std.proofs.Common.{rules}
+use Rattle.turn_lock.proofs.Turning.{counts}
 use Rattle.turn_lock.proofs.steps.count_entry.Goals as goal
 
 pub fetch_add-requires : goal.fetch_add-requires

@@ -1,5 +1,5 @@
-use Rattle.std.proofs.Common.{rules, refl, ap}
-use Rattle.turn_lock.proofs.Turning.{takes_turn, counts, frees, loads, compares}
+use Rattle.std.proofs.Common.{rules}
+use Rattle.turn_lock.proofs.Turning.{frees}
 use Rattle.turn_lock.proofs.steps.free_turn.Goals as goal
 
 pub swap-requires : goal.swap-requires

@@ -1,4 +1,4 @@
-use Rattle.std.proofs.Common.{arith, ◌≡◌, ◌≤◌, length, Some, sym, ap, ◌∙◌, inl, inr}
+use Rattle.std.proofs.Common.{arith, ◌≡◌, ◌≤◌, length, sym, ap, ◌∙◌, inl, inr}
 use Rattle.turn_lock.specs.History.{calls_of}
 use Rattle.turn_lock.proofs.Gaining.{gains_of}
 use Rattle.turn_lock.proofs.lock.TurnLock.count.Goals as goal

@@ -1,7 +1,7 @@
-use Rattle.std.proofs.Common.{rules, arith, ◌≡◌, ◌<◌, ◌≤◌, [], ◌∷◌, length, Some, refl, sym, ap, ◌∙◌, subst, inl, inr}
+use Rattle.std.proofs.Common.{arith, ◌≡◌, ◌<◌, ◌≤◌, ◌∷◌, length, Some, sym, ap, ◌∙◌, subst}
 use Rattle.turn_lock.specs.Numbers.{Gains}
 use Rattle.turn_lock.proofs.Sitting.{same_terms}
-use Rattle.turn_lock.proofs.Calling.{ungiven_after, grown_by, number_is, own_after, own_kept}
+use Rattle.turn_lock.proofs.Calling.{ungiven_after}
 use Rattle.turn_lock.proofs.lock.TurnLock.try_call.Goals as goal
 
 pub take_turn-found-requires : goal.take_turn-found-requires

@@ -1,8 +1,5 @@
-use Rattle.std.proofs.Common.{rules, arith, ◌≡◌, ℕ, ◌+◌, ◌<◌, [], ◌∷◌, ◌++◌, length, List, Some, refl, sym, ap, ◌∙◌, subst}
-use Rattle.turn_lock.specs.declared.machine.Entry.{Entry}
-use Rattle.turn_lock.specs.declared.book.Book.{Book}
-use Rattle.turn_lock.specs.declared.view.View.{View}
-use Rattle.turn_lock.specs.declared.view.Stage.TheVariants.{Resting, Holding, Counted}
+use Rattle.std.proofs.Common.{arith, ◌≡◌, ◌+◌, [], ◌∷◌, ◌++◌, length, sym, ap, ◌∙◌, subst}
+use Rattle.turn_lock.specs.declared.view.Stage.TheVariants.{Resting}
 use Rattle.turn_lock.specs.History.{calls_of}
 use Rattle.turn_lock.specs.Rule.{HasTurn}
 use Rattle.turn_lock.specs.Plays.{Saw, seeing}
@@ -109,5 +106,5 @@ returns-in-Ok-clause-others g c = let slot = c.requires.slot in let out = c.slot
     let items : c.slot_out-book.result.journal.items ≡ c.args.pass.now.me.0.known.seen = sym (ap (λ b. b.journal.items) one) ∙ slot.2 in
     let now = (c.count_entry.ensures.1 c.enter.new.self back.slot).0 in let e = c.in-Ok.entry in
     let seen : c.free_turn-in-Ok.new.pass.me.0.known.seen ≡ c.args.pass.now.me.0.known.seen ++ e ∷ [] =
-        ap (λ m. m.0.known.seen) c.free_turn-in-Ok.ensures.1 ∙ (ap (λ m. m.0.known.seen) now ∙ (c.in-Ok.ensures.journal ∙ ap (λ x. x ++ e ∷ []) items)) in
+    ap (λ m. m.0.known.seen) c.free_turn-in-Ok.ensures.1 ∙ (ap (λ m. m.0.known.seen) now ∙ (c.in-Ok.ensures.journal ∙ ap (λ x. x ++ e ∷ []) items)) in
     λ n other. ap (calls_of n) seen ∙ of_others n c.args.pass.now.me.0.known.seen e (λ is. other (sym is ∙ ap (λ x. x.caller) c.in-Ok.ensures.entry))
