@@ -1,0 +1,5 @@
+pub mod History
+pub mod Numbers
+pub mod Rule
+pub mod Plays
+pub mod Seats
