@@ -1,0 +1,13 @@
+pub mod Reading
+pub mod Alike
+pub mod Parts
+pub mod Limits
+pub mod Chars
+pub mod Valid
+pub mod Plain
+pub mod Edit
+pub mod Past
+pub mod Spelling
+pub mod Script
+pub mod Replies
+pub mod Desk

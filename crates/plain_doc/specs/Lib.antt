@@ -1,0 +1,2 @@
+pub mod PlainSpelling
+pub mod PlainParts
