@@ -1,0 +1,6 @@
+pub mod Texts
+pub mod Refusals
+pub mod Changes
+pub mod Runs
+pub mod Blocks
+pub mod Samples
