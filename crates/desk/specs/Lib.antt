@@ -1,0 +1,2 @@
+pub mod PlainPast
+pub mod PlainCommand
