@@ -1,0 +1,5 @@
+pub mod Lines
+pub mod Found
+pub mod Stops
+pub mod Texts
+pub mod Told

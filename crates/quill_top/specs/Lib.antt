@@ -1,0 +1,5 @@
+pub mod Words
+pub mod Stop
+pub mod Outcome
+pub mod Answer
+pub mod Ending

@@ -1,0 +1,84 @@
+//! Whole runs over a shelf and sinks in memory.
+
+use crate::{Status, quill_lone};
+use doc_model::spelling::{BODY, ROOT, ROOT_END, TAIL};
+use quill_io::{MemShelf, MemSink, has_distinct_names};
+use std::alloc::{AllocError, Global};
+use std::test::Fail;
+
+const SCRIPT: &str = "insert 1 5 \"x\"\ninsert 1 7 \"y\"\nsave\nundo\nundo\nsave\n";
+
+// The replies up to the bytes of the first save.
+const FIRST: &str = "1: changed 2
+2: refused 0 past-end 1 6
+3: saved 593
+";
+
+// The replies behind them, up to the bytes of the second.
+const SECOND: &str = "4: changed 3
+5: nothing-to-undo
+6: saved 592
+";
+
+// The words `run x y`.
+fn words(alloc: Global) -> Result<Vec<String>, AllocError> {
+    let mut words = Vec::new(alloc);
+    for word in ["run", "x", "y"] {
+        words.push(String::from_str(alloc, word)?)?;
+    }
+    Ok(words)
+}
+
+// The files of a run: the document's, of this name, and the script's, `y`.
+fn files(alloc: Global, name: &str, file: &str) -> Result<Vec<(String, Vec<u8>)>, AllocError> {
+    let mut files = Vec::new(alloc);
+    for (name, text) in [(name, file), ("y", SCRIPT)] {
+        let bytes = text.as_bytes().to_vec(alloc)?;
+        files.push((String::from_str(alloc, name)?, bytes))?;
+    }
+    Ok(files)
+}
+
+#[test]
+fn each_way_to_end_has_its_status_and_its_bytes(rt: HostRuntime) -> Result<(), Fail> {
+    let alloc = rt.alloc();
+    let hello = format!(in alloc; "{ROOT}{ROOT_END}{BODY}<text:p>hello</text:p>{TAIL}")?;
+    let hellox = format!(in alloc; "{ROOT}{ROOT_END}{BODY}<text:p>hellox</text:p>{TAIL}")?;
+    let whole = format!(in alloc; "{FIRST}{hellox}{SECOND}{hello}")?;
+    let rows = [
+        ("x", hello.as_str(), 0, 2000, Status(0), whole.as_str(), ""),
+        ("x", "", 0, 2000, Status(1), "", "refused: plain at 0\n"),
+        ("z", hello.as_str(), 0, 2000, Status(4), "", "absent: x\n"),
+        (
+            "x",
+            hello.as_str(),
+            1,
+            2000,
+            Status(5),
+            "",
+            "shelf fault: x\n",
+        ),
+        (
+            "x",
+            hello.as_str(),
+            0,
+            3,
+            Status(6),
+            "1: ",
+            "output fault\n",
+        ),
+    ];
+    for (name, file, failing, room, status, text, line) in rows {
+        let files = files(alloc, name, file)?;
+        assert!(rt; has_distinct_names(&files));
+        let mut shelf = MemShelf::new(files, [failing].to_vec(alloc)?);
+        let mut out = MemSink::new(alloc, room, Vec::new(alloc))?;
+        let mut diag = MemSink::new(alloc, 100, Vec::new(alloc))?;
+        let words = words(alloc)?;
+        let ended = quill_lone(alloc, &words, &mut shelf, &mut out, &mut diag);
+        assert_eq!(rt; ended, status, "{line:?}");
+        assert_eq!(rt; out.held(), text.as_bytes(), "{line:?}");
+        assert_eq!(rt; diag.held(), line.as_bytes(), "{line:?}");
+    }
+    Ok(())
+}
