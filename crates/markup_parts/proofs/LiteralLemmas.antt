@@ -1,8 +1,8 @@
 -- Reading one character as it stands.
-use Rattle.std.proofs.Common.{◌≡◌, ◌⊎◌, ℕ, List, [], ◌∷◌, ◌++◌, Bool, true, false, ◌==◌, refl, ap, sym, ◌∙◌, inl, inr, Option, Some, None, ne_eqb, arith}
+use Rattle.std.proofs.Common.{◌≡◌, ◌⊎◌, ℕ, List, [], ◌∷◌, ◌++◌, Bool, true, false, ◌==◌, refl, ap, sym, inl, inr, Option, Some, None, ne_eqb, arith}
 use Rattle.markup_parts.specs.Chars.{is_legal}
 use Rattle.markup_parts.specs.Constructs.{IsLiteral}
-use Rattle.markup_parts.specs.Outcomes.{IsRead, IsUnfinished, IsBroken}
+use Rattle.markup_parts.specs.Outcomes.{IsRead, IsUnfinished}
 
 -- a head and a tail of equal lists
 pub head_is : {c d : ℕ} {cs ds : List ℕ} → c ∷ cs ≡ d ∷ ds → c ≡ d
@@ -63,15 +63,6 @@ literal_alone d rest apart = record {
   is = λ more. inr (inr (refl, ne_eqb d 0xa apart, refl));
   only = λ more other behind h. alone_only d rest more apart other behind h;
 }
-
-illegal_none : (c : ℕ) (rest : List ℕ) → (c ≡ 0xd → ⊥) → is_legal c ≡ false → (more : List ℕ) (other : Option ℕ) (behind : List ℕ) → IsLiteral (c ∷ (rest ++ more)) other behind → ⊥
-illegal_none c rest apart never more None behind h = h
-illegal_none c rest apart never more (Some d) behind (inl h) = true_false (ap is_legal (head_is h.0) ∙ h.2) never
-illegal_none c rest apart never more (Some d) behind (inr (inl h)) = apart (head_is h.0)
-illegal_none c rest apart never more (Some d) behind (inr (inr h)) = apart (head_is h.0)
-
-pub literal_illegal : (c : ℕ) (rest : List ℕ) → (c ≡ 0xd → ⊥) → is_legal c ≡ false → IsBroken IsLiteral (c ∷ rest)
-literal_illegal c rest apart never = illegal_none c rest apart never
 
 legal_only : (c : ℕ) (rest : List ℕ) → (c ≡ 0xd → ⊥) → (more : List ℕ) (other : Option ℕ) (behind : List ℕ) → IsLiteral (c ∷ (rest ++ more)) other behind → (other ≡ Some c) × (behind ≡ rest ++ more)
 legal_only c rest apart more None behind h = absurd h

@@ -21,10 +21,6 @@ pub spent_push : (front : List ℕ) (c rest behind whole : ℕ) → IsSpent fron
 spent_push [] c rest behind whole h l = omega arith
 spent_push (d ∷ ds) c rest behind whole h l = omega arith
 
-pub spent_within : (front : List ℕ) (rest whole : ℕ) → IsSpent front rest whole → rest ≤ whole
-spent_within [] rest whole h = omega arith
-spent_within (d ∷ ds) rest whole h = omega arith
-
 pub spent_some : (front : List ℕ) (rest whole : ℕ) → IsSpent front rest whole → rest < whole → front ≡ [] → ⊥
 spent_some [] rest whole h l e = absurd (omega arith)
 spent_some (d ∷ ds) rest whole h l e = absurd (cc)

@@ -1,8 +1,5 @@
 -- References.
-use Rattle.std.proofs.Common.{◌≡◌, ℕ, List, [], ◌∷◌, ◌++◌, Bool, true, false, refl, ap, sym, ◌∙◌, subst, inl, inr, append_assoc, codes, chars, IsUtf8, bytes_eq, encode_utf8_all, cond, Option, Some, None}
-use Rattle.std.proofs.lemmas.Bool.Decides.{same_from_decides, Decides-like}
-use Rattle.std.proofs.lemmas.Slice.Eq.{bytes_eq-Decides}
-use Rattle.std.proofs.lemmas.Str.{encodes-chars}
+use Rattle.std.proofs.Common.{◌≡◌, ℕ, List, [], ◌∷◌, ◌++◌, Bool, true, false, refl, ap, sym, ◌∙◌, subst, inl, inr, append_assoc, codes, bytes_eq, cond, Option, Some, None}
 use Rattle.std.specs.List.{AllByRecursion as Each}
 use Rattle.markup_parts.specs.Chars.{is_legal, is_name_start, is_name_char, is_digit_of, entity_of}
 use Rattle.markup_parts.specs.Constructs.{IsName, IsNumber, IsNumeric, IsEntity, IsReference}
@@ -13,13 +10,6 @@ use Rattle.markup_parts.specs.declared.stop.Stop.TheVariants.{Broken, Cut, Refus
 use Rattle.markup_parts.proofs.LiteralLemmas.{head_is, tail_is, not_nil, true_false}
 use Rattle.markup_parts.proofs.ReadsLemmas.{Agrees}
 use Rattle.markup_parts.proofs.RunLemmas.{name_keeps, name_once, name_none, name_unfinished, completes, completed_name}
-
--- a word's test by bytes is that by characters
-pub word_test : (bytes word : List ℕ) → IsUtf8 bytes → chars word ≡ word → encode_utf8_all word ≡ word → bytes_eq bytes word ≡ bytes_eq (chars bytes) word
-word_test bytes word u c e =
-    same_from_decides (bytes_eq bytes word) (bytes_eq (chars bytes) word) (bytes_eq-Decides bytes word)
-    (Decides-like (bytes_eq (chars bytes) word) (λ (h : chars bytes ≡ word). sym (encodes-chars bytes u) ∙ (ap encode_utf8_all h ∙ e))
-    (λ (h : bytes ≡ word). ap chars h ∙ c) (bytes_eq-Decides (chars bytes) word))
 
 -- what no name begins with
 pub starts_apart : (c : ℕ) (text name after : List ℕ) → is_name_start c ≡ false → IsName (c ∷ text) name after → ⊥

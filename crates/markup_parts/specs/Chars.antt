@@ -2,7 +2,7 @@
 use Rattle.std.specs.Prelude.{ℕ, ◌+◌, ◌*◌, nat_le, nat_lt, ◌&&◌, ◌||◌, Bool, List, [], ◌∷◌, fold, codes, if◌then◌else◌, Option, Some, None}
 use Rattle.std.specs.Char.{digit_value}
 use Rattle.std.specs.List.{list_any}
-use Rattle.std.specs.Str.{bytes_eq, str_eq_ignore_ascii_case, encode_utf8_all}
+use Rattle.std.specs.Str.{bytes_eq}
 
 -- whether a number is in one of the ranges, both of whose ends belong to it
 abbrev pub is_among : List (ℕ × ℕ) → ℕ → Bool
@@ -48,7 +48,3 @@ entity_of name =
     else if bytes_eq name (codes "apos") then Some 0x27
     else if bytes_eq name (codes "quot") then Some 0x22
     else None
-
--- whether an instruction may not have this target: xml, in any case
-unfoldable pub is_reserved : List ℕ → Bool
-is_reserved target = str_eq_ignore_ascii_case (encode_utf8_all target) (codes "xml")

@@ -1,7 +1,7 @@
 -- The constructs of XML 1.0, each by the text that begins with it, its value, and what stands after it.
 use Rattle.std.specs.Prelude.{◌≡◌, ◌≢◌, ℕ, ◌==◌, Bool, true, false, List, [], ◌∷◌, ◌++◌, codes, ◌⊎◌, Option, Some, None}
 use Rattle.std.specs.List.{AllByRecursion as Each}
-use Rattle.markup_parts.specs.Chars.{is_legal, is_space, is_name_start, is_name_char, is_digit_of, number_of, legal_character, entity_of, is_reserved}
+use Rattle.markup_parts.specs.Chars.{is_legal, is_space, is_name_start, is_name_char, is_digit_of, number_of, legal_character, entity_of}
 
 -- a text that goes on, and not with a character that passes
 abbrev pub EndsBefore : (ℕ → Bool) → List ℕ → Type 0
@@ -78,22 +78,3 @@ IsUpTo test end text (Some body) after = stands text body where
 abbrev pub IsComment : List ℕ → Option (Unit {0}) → List ℕ → Type 0
 IsComment text (Some unit) after = (body : List ℕ) × IsUpTo is_legal (codes "--") text (Some body) (codes ">" ++ after)
 IsComment text None after = ⊥
-
--- what an instruction has behind its target: nothing, or white space and characters that pass
-abbrev pub IsInstructionRest : (ℕ → Bool) → List ℕ → Option (Unit {0}) → List ℕ → Type 0
-IsInstructionRest test text (Some unit) after =
-    (text ≡ codes "?>" ++ after)
-    ⊎ ((c : ℕ) × (rest body : List ℕ) × (is_space c ≡ true) × (text ≡ c ∷ rest) × IsUpTo test (codes "?>") rest (Some body) after)
-IsInstructionRest test text None after = ⊥
-
--- a processing instruction behind its `<?`
-abbrev pub IsInstruction : List ℕ → Option (Unit {0}) → List ℕ → Type 0
-IsInstruction text unit after = (target rest : List ℕ) × IsName text target rest × (is_reserved target ≡ false) × IsInstructionRest is_legal rest unit after
-
--- an XML declaration behind its `<?`, whose content may be anything
-abbrev pub IsDeclaration : List ℕ → Option (Unit {0}) → List ℕ → Type 0
-IsDeclaration text unit after = (rest : List ℕ) × IsName text (codes "xml") rest × IsInstructionRest (λ c. true) rest unit after
-
--- a processing instruction or an XML declaration behind its `<?`
-abbrev pub IsFirstInstruction : List ℕ → Option (Unit {0}) → List ℕ → Type 0
-IsFirstInstruction text unit after = IsInstruction text unit after ⊎ IsDeclaration text unit after

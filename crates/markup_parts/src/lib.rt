@@ -12,11 +12,13 @@ mod skipped;
 mod stop;
 mod text;
 
+pub use chars::{is_legal, is_space};
 pub use literals::literal;
 pub use names::name;
 pub use references::reference;
-pub use skipped::{cdata, comment};
+pub use skipped::{Allowed, cdata, comment, up_to};
 pub use stop::Stop;
+pub use text::{Class, expect, first, is_nothing, is_word, run};
 
 #[cfg(test)]
 mod tests;

@@ -31,7 +31,7 @@ impl Allowed {
 }
 
 /// The text in front of the first place where an end stands, and the text behind that end.
-fn up_to<'a>(text: &'a str, end: &str, allowed: Allowed) -> Result<(&'a str, &'a str), Stop>
+pub fn up_to<'a>(text: &'a str, end: &str, allowed: Allowed) -> Result<(&'a str, &'a str), Stop>
     ensures read { Reads (IsUpTo (is_allowed allowed) (chars end.now)) (chars text.now) (outcome (λ found. chars found.0.now) (λ found. chars found.1.now) result) }
     ensures shorter { IfOk result (λ found. length found.1.now ≤ length text.now) }
 {

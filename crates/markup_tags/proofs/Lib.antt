@@ -1,0 +1,4 @@
+pub mod AttemptLemmas
+pub mod InstructionLemmas
+pub mod TagLemmas
+pub mod ValueLemmas

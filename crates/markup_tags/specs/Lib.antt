@@ -1,0 +1,3 @@
+pub mod Attempts
+pub mod Tags
+pub mod Instructions

@@ -1,0 +1,12 @@
+pub mod ConstructLemmas
+pub mod ConstructOnceLemmas
+pub mod EscapeLemmas
+pub mod EventLemmas
+pub mod OnceLemmas
+pub mod ReadBackLemmas
+pub mod ReaderLemmas
+pub mod SayingLemmas
+pub mod StackLemmas
+pub mod TagOnceLemmas
+pub mod TreeLemmas
+pub mod WayLemmas

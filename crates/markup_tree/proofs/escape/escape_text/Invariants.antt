@@ -1,0 +1,14 @@
+-- What was written, and the escapes of the rest, are those of all.
+use denote.Shadow.{shadow}
+use denote.Text.{Utf8}
+use Rattle.std.proofs.Common.{◌≡◌, ◌++◌, length, chars, string_bytes}
+use Rattle.markup_tree.specs.Escapes.{escaped_text}
+use Rattle.markup_tree.proofs.escape.escape_text.Given as goal
+
+abbrev pub decreases-characters : goal.decreases-characters
+decreases-characters l = length l.rest
+
+abbrev pub invariant-characters : goal.invariant-characters
+invariant-characters l =
+    (chars (string_bytes l.out) ++ escaped_text (chars l.rest) ≡ escaped_text (chars l.text))
+    × shadow (Utf8 l.rest)

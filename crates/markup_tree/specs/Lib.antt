@@ -1,0 +1,4 @@
+pub mod Pieces
+pub mod Documents
+pub mod Escapes
+pub mod Stacks
