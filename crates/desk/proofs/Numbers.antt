@@ -7,7 +7,8 @@ use Rattle.doc_model.specs.Reading.{paragraphs, number_of, upwards}
 use Rattle.doc_model.specs.Plain.{IsPlain, plain_document, plain_blocks}
 use Rattle.doc_model.specs.Valid.{IsValid}
 use Rattle.plain_doc.proofs.Parts.{paragraphs-plain}
-use Rattle.plain_doc.proofs.Valid.{numbers-plain, ArePlainTexts-valid}
+use Rattle.plain_doc.proofs.Valid.{numbers-plain, measure-paragraphs, ArePlainTexts-valid}
+use Rattle.desk_model.specs.Stops.{paragraph_count}
 
 fold_max-upwards : (most first count : ℕ) → most + 1 ≡ first → fold max most (upwards first count) ≡ most + count
 fold_max-upwards most first zero e = omega arith
@@ -44,3 +45,15 @@ length_body-bound doc plain =
     let texts = plain.0 in
     let few : length texts ≤ 65536 = (ArePlainTexts-valid texts (subst IsValid plain.1.alone plain.1.valid)).paragraphs in
     omega (arith, few, ap (λ (d : Document). length d.body) plain.1.alone, length-body texts)
+
+-- a plain document's paragraphs are numbered by their count
+numbers_by_count : (doc : Document) → IsPlain doc → map number_of (paragraphs doc) ≡ upwards 1 (paragraph_count doc)
+numbers_by_count doc plain =
+    ap (λ (d : Document). map number_of (paragraphs d)) plain.1.alone
+    ∙ ap (λ (pars : List Par). map number_of pars) (paragraphs-plain plain.0)
+    ∙ numbers-plain 1 plain.0
+    ∙ ap (upwards 1) (sym (ap (λ (d : Document). length (paragraphs d)) plain.1.alone ∙ measure-paragraphs plain.0))
+
+-- plain documents of as many paragraphs have the same numbers
+pub same_numbers : (old new : Document) → IsPlain old → IsPlain new → paragraph_count new ≡ paragraph_count old → map number_of (paragraphs old) ≡ map number_of (paragraphs new)
+same_numbers old new plain plain' count = numbers_by_count old plain ∙ ap (upwards 1) (sym count) ∙ sym (numbers_by_count new plain')

@@ -6,7 +6,7 @@ use Rattle.doc_model.specs.Past.{Past, Entry, after_group}
 use Rattle.doc_model.specs.Plain.{IsPlain}
 use Rattle.desk.specs.PlainPast.{IsPlainPast}
 
-Each-take : {X : Type 0} (P : X → Type 0) (n : ℕ) (xs : List X) → Each P xs → Each P (take n xs)
+pub Each-take : {X : Type 0} (P : X → Type 0) (n : ℕ) (xs : List X) → Each P xs → Each P (take n xs)
 Each-take P zero xs each = tt
 Each-take P (suc n) [] each = tt
 Each-take P (suc n) (x ∷ xs) each = (each.0, Each-take P n xs each.1)

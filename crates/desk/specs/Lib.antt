@@ -1,2 +1,3 @@
 pub mod PlainPast
 pub mod PlainCommand
+pub mod DeskState

@@ -2,7 +2,7 @@
 
 ghost use Rattle.std.specs.Prelude.{◌≡◌, ◌++◌, map, IfOk, OnOk};
 ghost use Rattle.std.specs.List.{list_any};
-ghost use Rattle.doc_model.specs.Desk.{touched_by, is_restyling};
+ghost use Rattle.desk_model.specs.Desk.{touched_by, is_restyling};
 ghost use Rattle.doc_model.specs.Edit.{named_paragraphs};
 
 use doc_model::{EditOp, Group, List};

@@ -1,7 +1,7 @@
-//! The past of a document: what undo goes back to.
+//! The past of a document: what undo goes back to, and redo forth.
 
-ghost use Rattle.std.specs.Prelude.{◌≡◌, ◌≢◌, ◌↔◌, [], IsTrue, OnOk, OnErr};
-ghost use Rattle.doc_model.specs.Past.{no_past, after_group, after_undo};
+ghost use Rattle.std.specs.Prelude.{◌≡◌, ◌≢◌, ◌↔◌, [], IsTrue, OnOk, OnErr, slice_get};
+ghost use Rattle.doc_model.specs.Past.{no_past, after_group, after_undo, after_redo};
 
 use crate::entry::Entry;
 use doc_model::{Document, List};
@@ -61,6 +61,29 @@ impl Past {
         !self.earlier.is_empty()
     }
 
+    /// Whether there is an undone document.
+    pub(crate) fn has_undone(&self) -> bool
+        ensures { IsTrue result ↔ (self.now.undone ≢ []) }
+    {
+        !self.undone.is_empty()
+    }
+
+    /// The earlier document that an undo would take.
+    pub(crate) fn next_earlier(&self) -> &Entry
+        requires { self.now.earlier ≢ [] }
+        ensures { slice_get self.now.earlier 0 ≡ Some result.now }
+    {
+        &self.earlier[0]
+    }
+
+    /// The undone document that a redo would take.
+    pub(crate) fn next_undone(&self) -> &Entry
+        requires { self.now.undone ≢ [] }
+        ensures { slice_get self.now.undone 0 ≡ Some result.now }
+    {
+        &self.undone[0]
+    }
+
     /// Makes this document the present one. The one before becomes the next earlier one.
     pub(crate) fn put(
         &mut self,
@@ -93,6 +116,20 @@ impl Past {
         if let Some(mut entry) = self.earlier.pop_front() {
             mem::swap(&mut self.present, &mut entry.document);
             self.undone.push_front_reserved(entry);
+        }
+        Ok(())
+    }
+
+    /// Makes the next undone document the present one. The one before becomes the next earlier one.
+    pub(crate) fn redo(&mut self) -> Result<(), AllocError>
+        requires { self.old.undone ≢ [] }
+        ensures ok { OnOk result (after_redo self.old ≡ Some self.new) }
+        ensures err { OnErr result (self.new ≡ self.old) }
+    {
+        self.earlier.reserve(1)?;
+        if let Some(mut entry) = self.undone.pop_front() {
+            mem::swap(&mut self.present, &mut entry.document);
+            self.earlier.push_front_reserved(entry);
         }
         Ok(())
     }

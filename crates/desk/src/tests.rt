@@ -1,16 +1,18 @@
 //! What a desk over one empty paragraph answers.
 
 ghost use Rattle.std.specs.Prelude.{◌≡◌, ℕ, List, [], ◌∷◌, IfOk};
+ghost use Rattle.std.specs.List.{AllByRecursion as Each};
 ghost use Rattle.doc_model.specs.declared.block.Block.{roll-Block};
 ghost use Rattle.doc_model.specs.declared.block.Block.TheOpen.{Block-F};
 ghost use Rattle.doc_model.specs.Plain.{plain_blocks, plain_document, plain_paragraph};
 ghost use Rattle.doc_model.specs.Valid.{unstated as nothing_stated};
-ghost use Rattle.desk.specs.PlainCommand.{IsPlainCommand};
+ghost use Rattle.edit_ops.specs.PlainOps.{IsPlainOp};
 
 use crate::Desk;
+use desk_model::{Command, Reply};
 use doc_model::{
-    Block, Command, Document, EditOp, Group, List, ListStyle, Name, NoteStart, Par, ParId, Props,
-    Refusal, Reply, Txt,
+    Block, Document, EditOp, Group, List, ListStyle, Name, NoteStart, Par, ParId, Props, Refusal,
+    Txt,
 };
 use sqlite_items::Items;
 use std::alloc::{AllocError, Global};
@@ -83,12 +85,16 @@ fn one_empty_paragraph(alloc: Global) -> Result<Document, AllocError>
 
 #[tactic(auto, using(crate::proofs::EmptyDocument::empty_is_plain))]
 fn opened_at(alloc: Global, version: u32) -> Result<Desk, AllocError> {
-    Ok(Desk::start_at(alloc, one_empty_paragraph(alloc)?, version))
+    Desk::start_at(alloc, one_empty_paragraph(alloc)?, version)
 }
 
-// An insert at a place of the paragraph.
-fn insert(alloc: Global, at: u32) -> Result<Command, AllocError>
-    ensures { IfOk result IsPlainCommand }
+// Inserts an x at a place of the paragraph.
+fn insert(alloc: Global, desk: &mut Desk, at: u32) -> Result<Reply, AllocError> {
+    desk.edit(&inserted(alloc, at)?)
+}
+
+fn inserted(alloc: Global, at: u32) -> Result<Group, AllocError>
+    ensures { IfOk result (λ group. Each IsPlainOp group.0) }
 {
     let mut ops = List::new(alloc);
     ops.push(EditOp::InsertText {
@@ -96,31 +102,41 @@ fn insert(alloc: Global, at: u32) -> Result<Command, AllocError>
         at,
         text: Txt::from_list(String::from_str(alloc, "x")?),
     })?;
-    Ok(Command::Edit(Group(ops)))
+    Ok(Group(ops))
 }
 
-// The answer to an insert at the place, or to an undo.
-fn answer(alloc: Global, desk: &mut Desk, at: Option<u32>) -> Result<Reply, AllocError> {
-    match at {
-        Some(at) => desk.step(&insert(alloc, at)?),
-        None => desk.step(&Command::Undo),
+// Whether the reply is the expected one.
+fn is(reply: Result<Reply, AllocError>, expected: Reply) -> bool {
+    match reply {
+        Ok(reply) => reply == expected,
+        Err(_) => false,
     }
 }
 
 #[test]
-fn a_desk_answers_each_command(rt: HostRuntime) -> Result<(), Fail> {
+fn a_change_is_taken_back_and_done_again(rt: HostRuntime) -> Result<(), Fail> {
     let alloc = rt.alloc();
     let mut desk = opened_at(alloc, 1)?;
-    let why = Refusal::PastEnd(ParId(1), 1);
-    for (at, reply) in [
-        (None, Reply::NothingToUndo),
-        (Some(0), Reply::Changed(2)),
-        (Some(2), Reply::Refused { index: 0, why }),
-        (None, Reply::Changed(3)),
-        (None, Reply::NothingToUndo),
-    ] {
-        assert_eq!(rt; answer(alloc, &mut desk, at)?, reply);
-    }
+    assert!(rt; is(desk.undo(), Reply::NothingToUndo));
+    assert!(rt; is(insert(alloc, &mut desk, 0), Reply::Changed(2)));
+    assert!(rt; is(desk.undo(), Reply::Changed(3)));
+    assert!(rt; is(desk.redo(), Reply::Changed(4)));
+    assert!(rt; is(desk.redo(), Reply::NothingToRedo));
+    Ok(())
+}
+
+#[test]
+fn a_refused_edit_changes_nothing(rt: HostRuntime) -> Result<(), Fail> {
+    let alloc = rt.alloc();
+    let mut desk = opened_at(alloc, 7)?;
+    let why = Refusal::PastEnd(ParId(1), 0);
+    assert!(rt;
+        is(
+            insert(alloc, &mut desk, 1),
+            Reply::Refused { index: 0, why }
+        )
+    );
+    assert_eq!(rt; desk.version(), 7);
     Ok(())
 }
 
@@ -128,23 +144,43 @@ fn a_desk_answers_each_command(rt: HostRuntime) -> Result<(), Fail> {
 fn no_change_is_made_at_the_greatest_version(rt: HostRuntime) -> Result<(), Fail> {
     let alloc = rt.alloc();
     let mut desk = opened_at(alloc, 4294967294)?;
-    for (at, reply) in [
-        (Some(0), Reply::Changed(4294967295)),
-        (Some(1), Reply::Changes(4294967295)),
-        (None, Reply::Changes(4294967295)),
-    ] {
-        assert_eq!(rt; answer(alloc, &mut desk, at)?, reply);
-    }
+    assert!(rt; is(insert(alloc, &mut desk, 0), Reply::Changed(4294967295)));
+    assert!(rt; is(insert(alloc, &mut desk, 0), Reply::Changes(4294967295)));
+    assert!(rt; is(desk.undo(), Reply::Changes(4294967295)));
+    Ok(())
+}
+
+#[test]
+fn no_page_is_there_before_the_idle_work_is_done(rt: HostRuntime) -> Result<(), Fail> {
+    let desk = opened_at(rt.alloc(), 1)?;
+    assert!(rt; is(desk.page(1), Reply::NotYet(20)));
+    assert!(rt; desk.page_count().is_none());
     Ok(())
 }
 
 #[test]
 #[tactic(auto, using(crate::proofs::EmptyDocument::empty_is_plain))]
-fn a_save_answers_the_bytes_of_the_present_document(rt: HostRuntime) -> Result<(), Fail> {
+fn text_and_bytes_are_those_of_the_present_document(rt: HostRuntime) -> Result<(), Fail> {
     let alloc = rt.alloc();
     let doc = one_empty_paragraph(alloc)?;
     let bytes = canon_save::save(alloc, &doc)?;
-    let mut desk = Desk::start_at(alloc, doc, 1);
-    assert_eq!(rt; desk.step(&Command::Save)?, Reply::Saved(bytes));
+    let desk = Desk::start(alloc, doc)?;
+    assert!(rt; is(desk.save(), Reply::Saved(bytes)));
+    assert!(rt;
+        is(
+            desk.text(ParId(1)),
+            Reply::Text(Txt::from_list(String::new(alloc)))
+        )
+    );
+    assert!(rt; is(desk.text(ParId(2)), Reply::NoPar(ParId(2))));
+    Ok(())
+}
+
+#[test]
+fn commands_are_answered_one_after_another(rt: HostRuntime) -> Result<(), Fail> {
+    let mut desk = opened_at(rt.alloc(), 1)?;
+    let replies = desk.answer(&[Command::Debt, Command::Take, Command::Version])?;
+    let expected = [Reply::Debt(20), Reply::Moved(19), Reply::Version(1)];
+    assert!(rt; replies.get() == expected.as_slice());
     Ok(())
 }

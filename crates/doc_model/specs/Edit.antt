@@ -11,10 +11,11 @@ use Rattle.doc_model.specs.declared.paragraph.Note.{Note}
 use Rattle.doc_model.specs.declared.edit.EditOp.{EditOp}
 use Rattle.doc_model.specs.declared.edit.EditOp.TheVariants.{InsertText, DeleteRange}
 use Rattle.doc_model.specs.declared.refusal.Refusal.{Refusal}
-use Rattle.doc_model.specs.declared.refusal.Refusal.TheVariants.{NoPar, PastEnd, BadRange}
+use Rattle.doc_model.specs.declared.refusal.Refusal.TheVariants.{NoPar, PastEnd, BadRange, BadChar}
 use Rattle.doc_model.specs.declared.refusal.Refusal.TheVariants as refusal
 use Rattle.doc_model.specs.declared.refusal.Limit.TheVariants.{Operations}
 use Rattle.doc_model.specs.declared.document.Document.{Document}
+use Rattle.doc_model.specs.Chars.{first_untypable}
 use Rattle.doc_model.specs.Reading.{paragraphs, number_of}
 use Rattle.doc_model.specs.Parts.{items_of, what_of}
 use Rattle.doc_model.specs.Alike.{in_document}
@@ -101,6 +102,11 @@ abbrev pub bad_range : EditOp → Option Refusal
 bad_range (DeleteRange par from to) = if nat_lt to from then Some (BadRange from to) else None
 bad_range _ = None
 
+-- the first character of a text that can't be typed, by how many stand before it
+abbrev pub bad_char : EditOp → Option Refusal
+bad_char (InsertText par at text) = option_map BadChar (first_untypable text)
+bad_char _ = None
+
 -- the first limit that the result would pass
 abbrev pub limit_passed : Edited → EditOp → Option Refusal
 limit_passed old op = option_map (λ limit. refusal.Limit limit (limit_number limit)) (first_passed (edited old op).document)
@@ -113,7 +119,7 @@ first_refusal_of (Some why ∷ more) = Some why
 
 -- the first refusal of an operation, if there is one
 abbrev pub first_refusal : Edited → EditOp → Option Refusal
-first_refusal old op = first_refusal_of (no_paragraph old.document op ∷ past_end old.document op ∷ bad_range op ∷ limit_passed old op ∷ [])
+first_refusal old op = first_refusal_of (no_paragraph old.document op ∷ past_end old.document op ∷ bad_range op ∷ bad_char op ∷ limit_passed old op ∷ [])
 
 -- operations one after another, the first of this index: the edited document, or the index and refusal of the first one that is refused
 abbrev pub edited_by : Edited → ℕ → List EditOp → Result Edited (ℕ × Refusal)

@@ -8,6 +8,3 @@ pub mod Plain
 pub mod Edit
 pub mod Past
 pub mod Spelling
-pub mod Script
-pub mod Replies
-pub mod Desk

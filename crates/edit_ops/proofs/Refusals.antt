@@ -3,7 +3,7 @@ use Rattle.std.proofs.Common.{◌≡◌, ℕ, ◌≤◌, ◌<◌, Bool, true, fa
 use Rattle.std.specs.Prelude.{map, if◌then◌else◌, nat_lt, ◌⊎◌}
 use Rattle.std.specs.List.{AllByRecursion as Each, splice}
 use Rattle.std.specs.Option.{option_map, option_map_or}
-use Rattle.std.proofs.lemmas.Bool.{le-ltb, lt-ltb, cases_lt}
+use Rattle.std.proofs.lemmas.Bool.{le-leb, le-ltb, lt-ltb, ne_eqb, cases_lt}
 use Rattle.std.proofs.lemmas.List.{length-map}
 use Rattle.doc_model.specs.declared.paragraph.Item.{Item}
 use Rattle.doc_model.specs.declared.paragraph.Par.{Par}
@@ -13,9 +13,9 @@ use Rattle.doc_model.specs.declared.edit.EditOp.{EditOp}
 use Rattle.doc_model.specs.declared.edit.EditOp.TheVariants.{InsertText, DeleteRange}
 use Rattle.doc_model.specs.declared.refusal.Limit.{Limit}
 use Rattle.doc_model.specs.declared.refusal.Refusal.{Refusal}
-use Rattle.doc_model.specs.declared.refusal.Refusal.TheVariants.{NoPar, PastEnd, BadRange}
+use Rattle.doc_model.specs.declared.refusal.Refusal.TheVariants.{NoPar, PastEnd, BadRange, BadChar}
 use Rattle.doc_model.specs.declared.refusal.Refusal.TheVariants as refusal
-use Rattle.doc_model.specs.Chars.{IsPlainChar}
+use Rattle.doc_model.specs.Chars.{IsPlainChar, can_be_typed, first_untypable}
 use Rattle.doc_model.specs.Edit.{Edited, edited, first_refusal, first_refusal_of, live_paragraph, item_count, with_items, with_text, without_range}
 use Rattle.doc_model.specs.Limits.{first_passed, limit_number}
 use Rattle.doc_model.specs.Parts.{items_of}
@@ -83,6 +83,24 @@ with_items-cut texts par from to new = with_items-plain par.0 (λ items. splice 
 passed_by : (texts texts' : List (List ℕ)) (next : ℕ) (op : EditOp) → edited (at_next texts next) op ≡ at_next texts' next → first_passed (edited (at_next texts next) op).document ≡ plain_passed texts'
 passed_by texts texts' next op e = ap (λ (new : Edited). first_passed new.document) e ∙ first_passed-plain texts'
 
+-- each character of a plain text can be typed
+typed-plain : (c : ℕ) → IsPlainChar c → can_be_typed c ≡ true
+typed-plain c (low, high) = rw (ne_eqb c 0x9 (λ e. omega (arith, low, e)), ne_eqb c 0xa (λ e. omega (arith, low, e)), le-leb 0x20 c low, le-leb c 0xd7ff (omega (arith, high))) refl
+
+all_typed-plain : (text : List ℕ) → Each IsPlainChar text → first_untypable text ≡ None
+all_typed-plain [] plain = refl
+all_typed-plain (c ∷ cs) plain = rw (typed-plain c plain.0, all_typed-plain cs plain.1) refl
+
+-- a refusal that isn't there, before the last, changes nothing
+fourth_absent : (a b c last : Option Refusal) → first_refusal_of (a ∷ b ∷ c ∷ None ∷ last ∷ []) ≡ first_refusal_of (a ∷ b ∷ c ∷ last ∷ [])
+fourth_absent (Some why) b c last = refl
+fourth_absent None (Some why) c last = refl
+fourth_absent None None (Some why) last = refl
+fourth_absent None None None last = refl
+
+fourth_none : (a b c d last : Option Refusal) → d ≡ None → first_refusal_of (a ∷ b ∷ c ∷ d ∷ last ∷ []) ≡ first_refusal_of (a ∷ b ∷ c ∷ last ∷ [])
+fourth_none a b c d last none = ap (λ (d : Option Refusal). first_refusal_of (a ∷ b ∷ c ∷ d ∷ last ∷ [])) none ∙ fourth_absent a b c last
+
 twice : (b : Bool) (why : Option Refusal) → (if b then why else None) ≡ (if b then why else if b then why else None)
 twice true why = refl
 twice false why = refl
@@ -93,7 +111,10 @@ pub insert-refused : (texts : List (List ℕ)) (next : ℕ) (par : ParId) (at : 
 insert-refused texts next par at new text plain found =
     let passed : Option Limit = first_passed (edited (at_next texts next) (InsertText par at new)).document in
     let count : Option Par → ℕ = λ live. option_map_or (λ (par : Par). length (items_of par)) live 0 in
-    ap (λ (live : Option Par). first_refusal_of (option_map_or {T = Par} {U = Option Refusal} (λ par. None) live (Some (NoPar par)) ∷ (if nat_lt (count live) at then Some (PastEnd par (count live)) else None) ∷ None ∷ of_limit passed ∷ [])) (live_at texts par text found)
+    let live : Option Par = live_paragraph (plain_document texts) par in
+    fourth_none (option_map_or {T = Par} {U = Option Refusal} (λ par. None) live (Some (NoPar par))) (if nat_lt (count live) at then Some (PastEnd par (count live)) else None) None
+    (option_map BadChar (first_untypable new)) (of_limit passed) (ap (option_map BadChar) (all_typed-plain new plain))
+    ∙ ap (λ (live : Option Par). first_refusal_of (option_map_or {T = Par} {U = Option Refusal} (λ par. None) live (Some (NoPar par)) ∷ (if nat_lt (count live) at then Some (PastEnd par (count live)) else None) ∷ None ∷ of_limit passed ∷ [])) (live_at texts par text found)
     ∙ ap (λ (n : ℕ). first_refusal_of (None ∷ (if nat_lt n at then Some (PastEnd par n) else None) ∷ None ∷ of_limit passed ∷ [])) (count-plain par.0 text)
     ∙ ap (λ (limit : Option Limit). first_refusal_of (None ∷ (if nat_lt (length text) at then Some (PastEnd par (length text)) else None) ∷ None ∷ of_limit limit ∷ []))
     (passed_by texts (cut_texts par at at new texts) next (InsertText par at new) (edited-insert texts next par at new plain))
@@ -106,7 +127,11 @@ pub delete-refused : (texts : List (List ℕ)) (next : ℕ) (par : ParId) (from 
 delete-refused texts next par from to text found =
     let passed : Option Limit = first_passed (edited (at_next texts next) (DeleteRange par from to)).document in
     let count : Option Par → ℕ = λ live. option_map_or (λ (par : Par). length (items_of par)) live 0 in
-    ap (λ (live : Option Par). first_refusal_of (option_map_or {T = Par} {U = Option Refusal} (λ par. None) live (Some (NoPar par))
+    let live : Option Par = live_paragraph (plain_document texts) par in
+    fourth_absent (option_map_or {T = Par} {U = Option Refusal} (λ par. None) live (Some (NoPar par)))
+    (if nat_lt (count live) from then Some (PastEnd par (count live)) else if nat_lt (count live) to then Some (PastEnd par (count live)) else None)
+    (if nat_lt to from then Some (BadRange from to) else None) (of_limit passed)
+    ∙ ap (λ (live : Option Par). first_refusal_of (option_map_or {T = Par} {U = Option Refusal} (λ par. None) live (Some (NoPar par))
     ∷ (if nat_lt (count live) from then Some (PastEnd par (count live)) else if nat_lt (count live) to then Some (PastEnd par (count live)) else None)
     ∷ (if nat_lt to from then Some (BadRange from to) else None) ∷ of_limit passed ∷ [])) (live_at texts par text found)
     ∙ ap (λ (n : ℕ). refusal_at par from to n passed) (count-plain par.0 text)
@@ -117,7 +142,7 @@ pub insert-no_paragraph : (texts : List (List ℕ)) (next : ℕ) (par : ParId) (
 insert-no_paragraph texts next par at new none =
     let passed : Option Limit = first_passed (edited (at_next texts next) (InsertText par at new)).document in
     let count : Option Par → ℕ = λ live. option_map_or (λ (par : Par). length (items_of par)) live 0 in
-    ap (λ (live : Option Par). first_refusal_of (option_map_or {T = Par} {U = Option Refusal} (λ par. None) live (Some (NoPar par)) ∷ (if nat_lt (count live) at then Some (PastEnd par (count live)) else None) ∷ None ∷ of_limit passed ∷ [])) (not_live texts par none)
+    ap (λ (live : Option Par). first_refusal_of (option_map_or {T = Par} {U = Option Refusal} (λ par. None) live (Some (NoPar par)) ∷ (if nat_lt (count live) at then Some (PastEnd par (count live)) else None) ∷ None ∷ option_map BadChar (first_untypable new) ∷ of_limit passed ∷ [])) (not_live texts par none)
 
 pub delete-no_paragraph : (texts : List (List ℕ)) (next : ℕ) (par : ParId) (from to : ℕ) → text_numbered par.0 1 texts ≡ None
     → first_refusal (at_next texts next) (DeleteRange par from to) ≡ Some (NoPar par)
@@ -126,7 +151,7 @@ delete-no_paragraph texts next par from to none =
     let count : Option Par → ℕ = λ live. option_map_or (λ (par : Par). length (items_of par)) live 0 in
     ap (λ (live : Option Par). first_refusal_of (option_map_or {T = Par} {U = Option Refusal} (λ par. None) live (Some (NoPar par))
     ∷ (if nat_lt (count live) from then Some (PastEnd par (count live)) else if nat_lt (count live) to then Some (PastEnd par (count live)) else None)
-    ∷ (if nat_lt to from then Some (BadRange from to) else None) ∷ of_limit passed ∷ [])) (not_live texts par none)
+    ∷ (if nat_lt to from then Some (BadRange from to) else None) ∷ None ∷ of_limit passed ∷ [])) (not_live texts par none)
 
 -- the refusals of a live paragraph in their order
 past_end_by : (a b c : Bool) (why bad limit : Option Refusal) → (a ≡ true) ⊎ (b ≡ true) → (why ≡ None → ⊥)

@@ -1,11 +1,11 @@
 -- What each step finds is the one thing to be found.
 use Rattle.std.proofs.Common.{◌≡◌, ℕ, List, Option, Some, None, Result, Ok, Err, refl, sym, ap, ◌∙◌, subst, inl, inr}
 use Rattle.doc_model.specs.declared.document.Document.{Document}
-use Rattle.doc_model.specs.declared.command.Numbered.{Numbered}
+use Rattle.desk_model.specs.declared.script.Numbered.{Numbered}
 use Rattle.doc_model.specs.Plain.{IsPlain}
 use Rattle.doc_model.specs.Spelling.{canonical}
-use Rattle.doc_model.specs.Script.{IsScript, IsFirstBadLine}
-use Rattle.doc_model.specs.Desk.{script_text}
+use Rattle.desk_model.specs.Script.{IsScript, IsFirstBadLine}
+use Rattle.desk_model.specs.Runs.{script_text}
 use Rattle.quill_io.specs.Shelf.{Files}
 use Rattle.quill_top.specs.Words.{Names, accepted}
 use Rattle.quill_top.specs.Stop.{Stop, not_plain, usage, bad_line}

@@ -1,50 +1,8 @@
--- The lines of scripts: their commands are plain, and a script has no bad line.
-use Rattle.std.proofs.Common.{◌≡◌, ◌≢◌, ℕ, ◌+◌, suc, List, [], ◌∷◌, ◌++◌, length, refl, sym, ap, ◌∙◌, subst, inl, inr, arith}
+-- The lines of scripts: a script has no bad line, and one line is the first bad one.
+use Rattle.std.proofs.Common.{◌≡◌, ℕ, ◌+◌, suc, List, [], ◌∷◌, ◌++◌, length, refl, sym, ap, ◌∙◌, subst, inl, inr, arith}
 use Rattle.std.specs.List.{AllByRecursion as Each}
-use Rattle.doc_model.specs.declared.edit.EditOp.{EditOp}
-use Rattle.doc_model.specs.declared.edit.EditOp.TheVariants.{InsertText, DeleteRange}
-use Rattle.doc_model.specs.declared.command.Command.{Command}
-use Rattle.doc_model.specs.declared.command.Command.TheVariants.{Edit, Undo, Save}
-use Rattle.doc_model.specs.declared.command.Numbered.{Numbered}
-use Rattle.doc_model.specs.Chars.{IsPlainChar}
-use Rattle.doc_model.specs.Script.{IsEditLine, IsGroupOfOne, IsCommandLine, IsBadLine, AreCommandsFrom, IsScript, IsFirstBadLine}
-use Rattle.edit_ops.specs.PlainOps.{IsPlainOp}
-use Rattle.desk.specs.PlainCommand.{IsPlainCommand}
-
--- the commands are all plain
-abbrev pub ArePlain : List Numbered → Type 0
-ArePlain commands = Each (λ (numbered : Numbered). IsPlainCommand numbered.command) commands
-
-plain_text : (text : List ℕ) → Each (λ c. IsPlainChar c × (c ≢ 0x22) × (c ≢ 0x5c)) text → Each IsPlainChar text
-plain_text [] each = tt
-plain_text (c ∷ text) each = (each.0.0, plain_text text each.1)
-
-plain_edit : (line : List ℕ) (op : EditOp) → IsEditLine line op → IsPlainOp op
-plain_edit line (InsertText par at text) is = plain_text text is.4.1
-plain_edit line (DeleteRange par from to) is = tt
-plain_edit line _ is = absurd is
-
-plain_group : (line : List ℕ) (ops : List EditOp) → IsGroupOfOne line ops → Each IsPlainOp ops
-plain_group line [] is = absurd is
-plain_group line (op ∷ []) is = (plain_edit line op is, tt)
-plain_group line (op ∷ other ∷ ops) is = absurd is
-
--- a line's command is plain
-plain_command : (line : List ℕ) (command : Command) → IsCommandLine line command → IsPlainCommand command
-plain_command line (Edit group) is = plain_group line group.0 is
-plain_command line Undo is = tt
-plain_command line Save is = tt
-
-plain_commands : (number : ℕ) (lines : List (List ℕ)) (commands : List Numbered) → AreCommandsFrom number lines commands → ArePlain commands
-plain_commands number [] commands are = subst ArePlain (sym are) tt
-plain_commands number (line ∷ lines) [] are = tt
-plain_commands number (line ∷ lines) (command ∷ commands) (inl are) = plain_commands (number + 1) lines (command ∷ commands) are.1
-plain_commands number (line ∷ lines) (command ∷ commands) (inr are) =
-    (plain_command line command.command are.2, plain_commands (number + 1) lines commands are.3)
-
--- the commands of a script are plain
-pub plain_script : (bytes : List ℕ) (commands : List Numbered) → IsScript bytes commands → ArePlain commands
-plain_script bytes commands is = plain_commands 1 _ commands is
+use Rattle.desk_model.specs.declared.script.Numbered.{Numbered}
+use Rattle.desk_model.specs.Script.{IsBadLine, AreCommandsFrom, IsScript, IsFirstBadLine}
 
 no_bad_line : (number : ℕ) (before : List (List ℕ)) (line : List ℕ) (after : List (List ℕ)) (commands : List Numbered)
     → IsBadLine line → AreCommandsFrom number (before ++ line ∷ after) commands → ⊥

@@ -1,8 +1,8 @@
 -- What a run stops by is a fault, or what the words or the files are.
 use Rattle.std.proofs.Common.{◌≡◌, ℕ, ◌⊎◌, List, Option, Some, None, Ok, Err, IsSomeAnd, refl, sym, ◌∙◌, subst, inl, inr}
 use Rattle.doc_model.specs.declared.document.Document.{Document}
-use Rattle.doc_model.specs.declared.command.Numbered.{Numbered}
-use Rattle.doc_model.specs.Desk.{script_text}
+use Rattle.desk_model.specs.declared.script.Numbered.{Numbered}
+use Rattle.desk_model.specs.Runs.{script_text}
 use Rattle.quill_io.specs.Shelf.{Files}
 use Rattle.quill_top.specs.Words.{Names, accepted}
 use Rattle.quill_top.specs.Stop.{Stop, not_plain, usage, bad_line}

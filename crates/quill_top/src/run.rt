@@ -1,10 +1,5 @@
 //! A run up to its text.
 ghost use Rattle.std.specs.Prelude.{◌≡◌, ◌≢◌, ◌≤◌, None, Ok, Err, IfOk, IfErr, MatchResult};
-ghost use Rattle.std.specs.List.{AllByRecursion as Each};
-ghost use Rattle.doc_model.specs.declared.command.Numbered.{Numbered};
-ghost use Rattle.doc_model.specs.Plain.{IsPlain};
-ghost use Rattle.doc_model.specs.Desk.{script_text};
-ghost use Rattle.desk.specs.PlainCommand.{IsPlainCommand};
 ghost use Rattle.quill_io.specs.Faults.{Rose};
 ghost use Rattle.quill_top.specs.Words.{texts_of, accepted};
 ghost use Rattle.quill_top.specs.Outcome.{IsOutcome};
@@ -14,10 +9,8 @@ ghost use Rattle.quill_top.specs.Ending.{stop_of, Finds};
 use crate::ending::Ending;
 use crate::steps::{load_file, read_file};
 use crate::words::accepted;
-use desk::Desk;
-use doc_model::{Document, Numbered};
 use quill_io::Shelf;
-use script_lang::push_reply;
+use script_run::run_script;
 use std::alloc::{AllocError, Global};
 
 /// The text of a run, or why there is none.
@@ -54,20 +47,4 @@ pub(crate) fn prepare<'a, S: Shelf>(
         Ok(text) => Ok(text),
         Err(AllocError) => Err(Ending::NoMemory),
     }
-}
-
-// The text of a script over a document.
-fn run_script(alloc: Global, doc: Document, commands: &[Numbered]) -> Result<Vec<u8>, AllocError>
-    requires plain { IsPlain doc }
-    requires plain_commands { Each (λ (numbered : Numbered). IsPlainCommand numbered.command)
-        commands.now }
-    ensures { IfOk result (λ text. text.items ≡ script_text doc commands.now) }
-{
-    let mut desk = Desk::start_at(alloc, doc, 1);
-    let mut text = Vec::new(alloc);
-    'commands: for numbered in commands {
-        let reply = desk.step(&numbered.command)?;
-        push_reply(&mut text, numbered.line, &reply)?;
-    }
-    Ok(text)
 }

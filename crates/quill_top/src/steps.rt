@@ -1,16 +1,17 @@
 //! The steps of a run that read a file.
 ghost use Rattle.std.specs.Prelude.{◌≡◌, ℕ, ◌⊎◌, ◌≤◌, Ok, Err, length, IfOk, IfErr};
 ghost use Rattle.std.specs.List.{AllByRecursion as Each};
-ghost use Rattle.doc_model.specs.declared.command.Numbered.{Numbered};
+ghost use Rattle.desk_model.specs.declared.script.Numbered.{Numbered};
 ghost use Rattle.doc_model.specs.Plain.{IsPlain};
-ghost use Rattle.desk.specs.PlainCommand.{IsPlainCommand};
+ghost use Rattle.script_run.specs.PlainScript.{IsPlainScriptCommand};
 ghost use Rattle.quill_io.specs.Faults.{Rose};
 ghost use Rattle.quill_top.specs.Stop.{not_plain, bad_line};
 ghost use Rattle.quill_top.specs.Outcome.{most_bytes, IsFetched, IsLoaded, IsRead};
 ghost use Rattle.quill_top.specs.Ending.{stop_of, IsFaultAt, IsUnread, Finds};
 
 use crate::ending::Ending;
-use doc_model::{Document, List, Numbered};
+use desk_model::Numbered;
+use doc_model::{Document, List};
 use fodt_read::{LoadFault, load_plain};
 use quill_io::{FetchFault, Fetched, Shelf};
 use script_lang::{ScriptFault, read_script};
@@ -83,7 +84,7 @@ pub(crate) fn read_file<'a, S: Shelf>(
     ensures found { IfOk result
         (λ script. Finds (S.files shelf.old) (λ at. IsRead at name.now) (Ok script)) }
     ensures plain { IfOk result
-        (λ script. Each (λ (numbered : Numbered). IsPlainCommand numbered.command) script) }
+        (λ script. Each (λ (numbered : Numbered). IsPlainScriptCommand numbered.command) script) }
     ensures stops { IfErr result (λ ending. IsFaultAt name.now (stop_of ending)
         ⊎ ((IsUnread name.now (stop_of ending)
         ⊎ ((number : ℕ) × (stop_of ending ≡ bad_line number)))

@@ -20,6 +20,19 @@ const SECOND: &str = "4: changed 3
 6: saved 592
 ";
 
+// A job that is outdated by an edit, also where an undo brings its text back.
+const JOBS: &str = "turn\ntake a\ninsert 1 5 \"x\"\nundo\npublish a\nsettle\npublish a\n";
+
+// The replies to them.
+const STALE: &str = "1: moved 19
+2: job 1 1 1
+3: changed 2
+4: changed 3
+5: stale had 1 1 now 3 1
+6: settled 6
+7: stale had 1 1 now 3 1
+";
+
 // The words `run x y`.
 fn words(alloc: Global) -> Result<Vec<String>, AllocError> {
     let mut words = Vec::new(alloc);
@@ -30,9 +43,14 @@ fn words(alloc: Global) -> Result<Vec<String>, AllocError> {
 }
 
 // The files of a run: the document's, of this name, and the script's, `y`.
-fn files(alloc: Global, name: &str, file: &str) -> Result<Vec<(String, Vec<u8>)>, AllocError> {
+fn files(
+    alloc: Global,
+    name: &str,
+    file: &str,
+    script: &str,
+) -> Result<Vec<(String, Vec<u8>)>, AllocError> {
     let mut files = Vec::new(alloc);
-    for (name, text) in [(name, file), ("y", SCRIPT)] {
+    for (name, text) in [(name, file), ("y", script)] {
         let bytes = text.as_bytes().to_vec(alloc)?;
         files.push((String::from_str(alloc, name)?, bytes))?;
     }
@@ -45,31 +63,35 @@ fn each_way_to_end_has_its_status_and_its_bytes(rt: HostRuntime) -> Result<(), F
     let hello = format!(in alloc; "{ROOT}{ROOT_END}{BODY}<text:p>hello</text:p>{TAIL}")?;
     let hellox = format!(in alloc; "{ROOT}{ROOT_END}{BODY}<text:p>hellox</text:p>{TAIL}")?;
     let whole = format!(in alloc; "{FIRST}{hellox}{SECOND}{hello}")?;
+    let plain = hello.as_str();
     let rows = [
-        ("x", hello.as_str(), 0, 2000, Status(0), whole.as_str(), ""),
-        ("x", "", 0, 2000, Status(1), "", "refused: plain at 0\n"),
-        ("z", hello.as_str(), 0, 2000, Status(4), "", "absent: x\n"),
+        ("x", plain, SCRIPT, 0, 2000, Status(0), whole.as_str(), ""),
+        ("x", plain, JOBS, 0, 2000, Status(0), STALE, ""),
         (
             "x",
-            hello.as_str(),
+            "",
+            SCRIPT,
+            0,
+            2000,
+            Status(1),
+            "",
+            "refused: plain at 0\n",
+        ),
+        ("z", plain, SCRIPT, 0, 2000, Status(4), "", "absent: x\n"),
+        (
+            "x",
+            plain,
+            SCRIPT,
             1,
             2000,
             Status(5),
             "",
             "shelf fault: x\n",
         ),
-        (
-            "x",
-            hello.as_str(),
-            0,
-            3,
-            Status(6),
-            "1: ",
-            "output fault\n",
-        ),
+        ("x", plain, SCRIPT, 0, 3, Status(6), "1: ", "output fault\n"),
     ];
-    for (name, file, failing, room, status, text, line) in rows {
-        let files = files(alloc, name, file)?;
+    for (name, file, script, failing, room, status, text, line) in rows {
+        let files = files(alloc, name, file, script)?;
         assert!(rt; has_distinct_names(&files));
         let mut shelf = MemShelf::new(files, [failing].to_vec(alloc)?);
         let mut out = MemSink::new(alloc, room, Vec::new(alloc))?;

@@ -11,7 +11,7 @@ use Rattle.std.proofs.lemmas.Int.Digits.{digits_value_more}
 use Rattle.std.proofs.lemmas.Str.Parse.{digits_value-take-le}
 use Rattle.std.specs.Char.{digit_value}
 use Rattle.std.specs.Str.Parse.{digits_value}
-use Rattle.doc_model.specs.Script.{IsNumber}
+use Rattle.desk_model.specs.Script.{IsNumber}
 use Rattle.script_lang.specs.Parts.{IsNumberThen}
 
 -- no element is c
@@ -82,5 +82,6 @@ no_number_then bytes digits after without e none number rest h =
     none number (subst (λ (ds : List ℕ). IsNumber ds number) cut.0 h.1)
 
 -- the digits up to a place spell no more than all of them
-pub digits_value_front : (digits : List ℕ) (at : ℕ) → at < length digits → digits_value 10 (take at digits) * 10 + digit_value (get_or digits at 0) ≤ digits_value 10 digits
-digits_value_front digits at h = omega (arith, digits_value_more 10 digits at h, digits_value-take-le 10 digits (at + 1) (omega arith))
+pub digits_value_front : (radix : ℕ) (digits : List ℕ) (at : ℕ) → 1 ≤ radix → at < length digits → digits_value radix (take at digits) * radix + digit_value (get_or digits at 0) ≤ digits_value radix digits
+digits_value_front radix digits at some h =
+    subst (λ (n : ℕ). n ≤ digits_value radix digits) (digits_value_more radix digits at h) (digits_value-take-le radix digits (at + 1) some)

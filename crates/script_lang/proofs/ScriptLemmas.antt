@@ -2,19 +2,19 @@
 use Rattle.std.proofs.Common.{◌≡◌, ℕ, ◌+◌, List, [], ◌∷◌, ◌++◌, length, refl, ap, sym, ◌∙◌, subst, inl, inr, append_assoc, append-nil}
 use Rattle.std.specs.List.{AllByRecursion as Each}
 use Rattle.std.proofs.lemmas.List.{length_push}
-use Rattle.doc_model.specs.declared.command.Command.{Command}
-use Rattle.doc_model.specs.declared.command.Numbered.{Numbered}
-use Rattle.doc_model.specs.Script.{IsCommandLine, IsSkipped, IsBadLine, AreCommandsFrom}
+use Rattle.desk_model.specs.declared.script.ScriptCommand.{ScriptCommand}
+use Rattle.desk_model.specs.declared.script.Numbered.{Numbered}
+use Rattle.desk_model.specs.Script.{IsCommandLine, IsSkipped, IsBadLine, AreCommandsFrom}
 use Rattle.script_lang.specs.declared.script.ScriptFault.{ScriptFault}
 use Rattle.script_lang.specs.declared.script.ScriptFault.TheVariants.{BadLine, NoMemory}
 use Rattle.script_lang.specs.Fault.{OnBadLine}
 use Rattle.script_lang.specs.Parts.{AddsLine}
-use Rattle.script_lang.proofs.LineLemmas.{command_same}
+use Rattle.script_lang.proofs.CommandLemmas.{command_same}
 
 numbered_same : (line : List ℕ) (number : ℕ) (one other : Numbered) → one.line ≡ number → other.line ≡ number → IsCommandLine line one.command → IsCommandLine line other.command → other ≡ one
 numbered_same line number one other p q r s =
     ap (λ (n : ℕ). record { line = n; command = other.command }) (q ∙ sym p)
-    ∙ ap (λ (command : Command). record { line = one.line; command = command }) (command_same line one.command other.command r s)
+    ∙ ap (λ (command : ScriptCommand). record { line = one.line; command = command }) (command_same line one.command other.command r s)
 
 -- lines are one list of commands at most
 pub commands_same : (number : ℕ) (lines : List (List ℕ)) (script other : List Numbered) → AreCommandsFrom number lines script → AreCommandsFrom number lines other → other ≡ script

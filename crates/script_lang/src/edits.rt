@@ -1,12 +1,12 @@
 //! Lines that are edits.
 
 ghost use Rattle.std.specs.Prelude.{◌≡◌, ℕ, List, ◌++◌, codes, IfOk, MatchOption};
-ghost use Rattle.doc_model.specs.Script.{IsEditLine};
+ghost use Rattle.desk_model.specs.Script.{IsEditLine};
 ghost use Rattle.script_lang.specs.Parts.{Finds, IsInsertion};
 
 use crate::cuts::after;
 use crate::numbers::{number_before_space, read_number};
-use crate::texts::{own_text, quoted_text};
+use crate::texts::{between_quotes, read_text};
 use doc_model::{EditOp, ParId};
 use std::alloc::{AllocError, Global};
 
@@ -28,27 +28,27 @@ fn read_insertion(alloc: Global, bytes: &[u8]) -> Result<Option<EditOp>, AllocEr
     ensures { IfOk result (Finds (IsEditLine (codes "insert " ++ bytes.now))) }
 {
     match insertion_parts(bytes) {
-        Some((par, at, text)) => {
-            let text = own_text(alloc, text)?;
-            Ok(Some(EditOp::InsertText {
+        Some((par, at, inside)) => match read_text(alloc, inside)? {
+            Some(text) => Ok(Some(EditOp::InsertText {
                 par: ParId(par),
                 at,
                 text,
-            }))
-        }
+            })),
+            None => Ok(None),
+        },
         None => Ok(None),
     }
 }
 
-/// The number of a paragraph, a place in it and a text in quotes.
+/// The number of a paragraph, a place in it and what stands in quotes.
 fn insertion_parts(bytes: &[u8]) -> Option<(u32, u32, &[u8])>
-    ensures { MatchOption result ((par at : ℕ) (text : List ℕ) → IsInsertion bytes.now par at text → ⊥)
+    ensures { MatchOption result ((par at : ℕ) (inside : List ℕ) → IsInsertion bytes.now par at inside → ⊥)
         (λ parts. IsInsertion bytes.now parts.0 parts.1 parts.2.now) }
 {
     let (par, rest) = number_before_space(bytes)?;
     let (at, rest) = number_before_space(rest)?;
-    let text = quoted_text(rest)?;
-    Some((par, at, text))
+    let inside = between_quotes(rest)?;
+    Some((par, at, inside))
 }
 
 /// The deletion that follows `delete `.

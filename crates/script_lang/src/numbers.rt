@@ -1,7 +1,7 @@
 //! Numbers as they stand in a line.
 
 ghost use Rattle.std.specs.Prelude.{◌≡◌, ℕ, List, ◌++◌, MatchOption};
-ghost use Rattle.doc_model.specs.Script.{IsNumber};
+ghost use Rattle.desk_model.specs.Script.{IsNumber};
 ghost use Rattle.script_lang.specs.Parts.{Finds, IsNumberThen};
 
 use crate::cuts::cut_at;

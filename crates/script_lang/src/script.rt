@@ -1,14 +1,15 @@
 //! Scripts.
 
 ghost use Rattle.std.specs.Prelude.{◌≡◌, ℕ, List, ◌<◌, ◌^◌, length, IfOk, OnOk, IfErr};
-ghost use Rattle.doc_model.specs.Script.{IsScript, IsFirstBadLine, IsBadLine};
+ghost use Rattle.desk_model.specs.Script.{IsScript, IsFirstBadLine, IsBadLine};
 ghost use Rattle.script_lang.specs.Fault.{OnBadLine};
 ghost use Rattle.script_lang.specs.Parts.{AddsLine};
-ghost use Rattle.doc_model.specs.declared.command.Numbered.{Numbered};
+ghost use Rattle.desk_model.specs.declared.script.Numbered.{Numbered};
 
 use crate::commands::{is_skipped, read_command};
 use crate::cuts::next_line;
-use doc_model::{List, Numbered};
+use desk_model::Numbered;
+use doc_model::List;
 use std::alloc::{AllocError, Global};
 use thiserror::Error;
 
@@ -35,9 +36,18 @@ impl From<AllocError> for ScriptFault {
 
 /// Reads a script: one command a line, with the numbers of the lines, counted from 1.
 ///
-/// A line is `insert P A "text"`, `delete P F T`, `undo` or `save`, in just these spaces. P is a paragraph's number, and
-/// A, F and T count its items before a place. Empty lines and lines that begin with `#` are skipped. A line ends with a
-/// line feed, with or without a carriage return before it; the last one may do without.
+/// A line is one of these, in just these spaces. P is a paragraph's number; A, F and T count its items before a place;
+/// N is a page's index from 1; NAME is one to sixteen letters a to z and digits.
+///
+/// - `insert P A "text"` and `delete P F T`, `undo` and `redo`;
+/// - `take NAME` and `publish NAME`, `turn` and `settle`;
+/// - `page N`, `text P`, `save`, `debt` and `version`.
+///
+/// In a text `\"`, `\\`, `\n`, `\t` and `\u{H}`, with one to six hexadecimal digits in either case, stand for characters. A
+/// line whose text is empty, or has any character but those of U+20 to U+7E, is no command.
+///
+/// Empty lines and lines that begin with `#` are skipped. A line ends with a line feed, with or without a carriage return
+/// before it; the last one may do without.
 pub fn read_script(alloc: Global, bytes: &[u8]) -> Result<List<Numbered>, ScriptFault>
     requires short { length bytes.now < 2 ^ 32 }
     ensures found { IfOk result (λ script. IsScript bytes.now script) }

@@ -1,51 +1,41 @@
 //! Texts in quotes.
 
-ghost use Rattle.std.specs.Prelude.{◌≡◌, ◌≢◌, ℕ, List, IsTrue, ◌↔◌, IfOk, MatchOption};
-ghost use Rattle.doc_model.specs.Chars.{IsPlainChar};
-ghost use Rattle.doc_model.specs.Script.{IsLineText};
-ghost use Rattle.script_lang.specs.Parts.{IsQuoted};
+ghost use Rattle.std.specs.Prelude.{◌≡◌, ℕ, List, IfOk, MatchOption};
+ghost use Rattle.script_lang.specs.Parts.{Finds, IsQuoted, SpellsLineText};
 
+use crate::escapes::next_char;
 use doc_model::Txt;
 use std::alloc::{AllocError, Global};
 
-/// The text between two quotes, where a line can insert it.
-pub(crate) fn quoted_text(bytes: &[u8]) -> Option<&[u8]>
-    ensures { MatchOption result ((text : List ℕ) → IsQuoted bytes.now text → ⊥)
-        (λ text. IsQuoted bytes.now text.now) }
+/// What stands between the first byte and the last, where both are quotes.
+pub(crate) fn between_quotes(bytes: &[u8]) -> Option<&[u8]>
+    ensures { MatchOption result ((inside : List ℕ) → IsQuoted bytes.now inside → ⊥)
+        (λ inside. IsQuoted bytes.now inside.now) }
 {
     match bytes {
-        [b'"', text @ .., b'"'] if is_line_text(text) => Some(text),
+        [b'"', inside @ .., b'"'] => Some(inside),
         _ => None,
     }
 }
 
-fn is_line_text(text: &[u8]) -> bool
-    ensures { IsTrue result ↔ IsLineText text.now }
+/// The text that bytes between quotes spell, where a line can insert it.
+pub(crate) fn read_text(alloc: Global, bytes: &[u8]) -> Result<Option<Txt>, AllocError>
+    ensures { IfOk result (Finds (SpellsLineText bytes.now)) }
 {
-    for byte in text {
-        if !is_text_byte(*byte) {
-            return false;
+    let mut text = String::new(alloc);
+    let mut rest = bytes;
+    'chars: while !rest.is_empty() {
+        match next_char(rest) {
+            Some((c, after)) => {
+                text.push(char::from(c))?;
+                rest = after;
+            }
+            None => return Ok(None),
         }
     }
-    !text.is_empty()
-}
-
-/// U+20 to U+7E, but for quote and backslash.
-fn is_text_byte(byte: u8) -> bool
-    ensures { IsTrue result ↔ (IsPlainChar byte × (byte ≢ 0x22) × (byte ≢ 0x5c)) }
-{
-    match byte {
-        b'"' | b'\\' => false,
-        b' '..=b'~' => true,
-        _ => false,
+    if bytes.is_empty() {
+        Ok(None)
+    } else {
+        Ok(Some(Txt::from_list(text)))
     }
-}
-
-/// A text of its own with these characters, each of which is one byte.
-pub(crate) fn own_text(alloc: Global, text: &[u8]) -> Result<Txt, AllocError>
-    requires { IsLineText text.now }
-    ensures { IfOk result (λ own. own ≡ text.now) }
-{
-    let text = str::from_utf8(text).unwrap();
-    Ok(Txt::from_list(String::from_str(alloc, text)?))
 }

@@ -1,5 +1,5 @@
 use Rattle.std.proofs.Common.{◌≡◌, ◌++◌, drop}
-use Rattle.doc_model.specs.Desk.{touched_by}
+use Rattle.desk_model.specs.Desk.{touched_by}
 use Rattle.desk.proofs.group.touched_by.Given as goal
 
 -- What was touched so far, and then by the edits that are left, is what all touch.

@@ -1,6 +1,6 @@
 -- What a run finds, or stops by, is what its words and files come to.
 use Rattle.std.proofs.Common.{ap, ◌∙◌}
-use Rattle.doc_model.specs.Desk.{script_text}
+use Rattle.desk_model.specs.Runs.{script_text}
 use Rattle.quill_top.specs.Words.{Names, texts_of}
 use Rattle.quill_top.specs.Ending.{stop_of}
 use Rattle.quill_top.proofs.Stops.{stop_unloaded, stop_unread, run_found}

@@ -1,8 +1,8 @@
 -- What isn't read was not fetched, or has a bad line.
 use Rattle.std.proofs.Common.{ℕ, List, refl, sym, subst, inr}
-use Rattle.doc_model.specs.Script.{IsScript, IsFirstBadLine}
+use Rattle.desk_model.specs.Script.{IsScript, IsFirstBadLine}
 use Rattle.quill_top.specs.Ending.{stop_of}
-use Rattle.quill_top.proofs.Lines.{plain_script}
+use Rattle.script_run.proofs.Lines.{plain_script}
 use Rattle.quill_top.proofs.Found.{read, bad}
 use Rattle.quill_top.proofs.Stops.{stop_reading}
 use Rattle.quill_top.proofs.steps.read_file.Goals as goal

@@ -14,12 +14,12 @@ ne_nil (d ∷ digits) e none = cc
 
 pub returns-in_err-checked_mul : goal.returns-in_err-checked_mul
 returns-in_err-checked_mul c =
-    let front = digits_value_front c.args.digits.now c.loop-digit.digit-index c.loop-digit-test.true in
+    let front = digits_value_front 10 c.args.digits.now c.loop-digit.digit-index (omega arith) c.loop-digit-test.true in
     rw c.from_residual.ensures (λ number h. c.in_err-checked_mul.ensures (omega (arith, front, h.2, h.3, c.loop-digit.invariant.1)))
 
 pub returns-in_err-number : goal.returns-in_err-number
 returns-in_err-number c =
-    let front = digits_value_front c.args.digits.now c.loop-digit.digit-index c.loop-digit-test.true in
+    let front = digits_value_front 10 c.args.digits.now c.loop-digit.digit-index (omega arith) c.loop-digit-test.true in
     let digit = digit_value_digit (get_or c.args.digits.now c.loop-digit.digit-index 0) c.if-not-is_ascii_digit.ensures.cases in
     rw c.from_residual-in_err-number.ensures
     (λ number h. c.in_err-number.ensures (omega (arith, front, digit, h.2, h.3, c.loop-digit.invariant.1, c.in_ok-checked_mul.ensures.1, c.from.ensures)))

@@ -2,8 +2,8 @@ use Rattle.std.proofs.Common.{◌≡◌, ℕ, ◌+◌, List, arith, subst}
 use Rattle.std.specs.Str.Lines.{lines}
 use Rattle.script_lang.proofs.ScriptLemmas.{HasRead, line_read, all_read, commands_same, no_script, OnBadLine-weaker}
 use Rattle.std.proofs.lemmas.Result.{err_from_is_err_and}
-use Rattle.doc_model.specs.declared.command.Numbered.{Numbered}
-use Rattle.doc_model.specs.Script.{IsBadLine, AreCommandsFrom}
+use Rattle.desk_model.specs.declared.script.Numbered.{Numbered}
+use Rattle.desk_model.specs.Script.{IsBadLine, AreCommandsFrom}
 use Rattle.script_lang.proofs.script.read_script.Goals as goal
 
 pub returns-in_err-push_line-clause-none : goal.returns-in_err-push_line-clause-none

@@ -1,9 +1,17 @@
-use Rattle.std.proofs.Common.{subst, sym}
-use Rattle.desk.specs.PlainPast.{IsPlainPast}
-use Rattle.desk.proofs.PlainPasts.{IsPlainPast-after_group}
+use Rattle.std.proofs.Common.{ap, sym, ◌∙◌}
+use Rattle.desk_model.specs.Stops.{paragraph_count}
+use Rattle.desk_model.specs.Desk.{State, present}
+use Rattle.desk.proofs.Changes.{follows_group, numbers_behind, state_behind}
 use Rattle.desk.proofs.desk.Desk.change.Goals as goal
+
+pub restart-requires-clause-same : goal.restart-requires-clause-same
+restart-requires-clause-same c =
+    let count = c.requires.count ∙ ap (λ (state : State). paragraph_count (present state)) (sym c.self.view_is) in
+    let follows = follows_group c.self.inside.past c.put.new.self c.self.inside.agenda c.args.document c.in_ok-touched.touched c.restyles.result c.self.invariant c.requires.plain count c.in_ok-put.ensures.ok in
+    numbers_behind c.self.inside.past c.put.new.self c.self.inside.agenda c.present.result.now c.self.invariant follows c.present.ensures
 
 pub invariant_of-self-2 : goal.invariant_of-self-2
 invariant_of-self-2 c =
-    subst IsPlainPast (sym c.in_ok-put.ensures.ok)
-    (IsPlainPast-after_group c.self.inside.past c.args.document c.in_ok-touched.touched c.restyles.result c.requires c.self.invariant)
+    let count = c.requires.count ∙ ap (λ (state : State). paragraph_count (present state)) (sym c.self.view_is) in
+    let follows = follows_group c.self.inside.past c.put.new.self c.self.inside.agenda c.args.document c.in_ok-touched.touched c.restyles.result c.self.invariant c.requires.plain count c.in_ok-put.ensures.ok in
+    state_behind c.self.inside.past c.put.new.self c.restart.new.agenda c.present.result.now follows c.present.ensures c.restart.ensures.reached

@@ -1,0 +1,12 @@
+pub mod Kept
+pub mod StepCases
+pub mod Runs
+pub mod Undone
+pub mod Settles
+pub mod Stamps
+pub mod Asked
+pub mod Staleness
+pub mod LastRound
+pub mod ReachedStates
+pub mod UndoneAll
+pub mod SettleCommands

@@ -1,0 +1,13 @@
+pub mod SameKeys
+pub mod Rows
+pub mod Passed
+pub mod PlainPlaces
+pub mod Uses
+pub mod Entering
+pub mod Turns
+pub mod Starts
+pub mod Publishing
+pub mod Marks
+pub mod Settled
+pub mod EmptyDocument
+pub mod EmptyLines

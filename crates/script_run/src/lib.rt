@@ -1,0 +1,9 @@
+//! Scripts over a document: what their commands print.
+#![tactic(auto)]
+
+mod run;
+
+pub use run::run_script;
+
+#[cfg(test)]
+mod tests;
