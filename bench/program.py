@@ -62,3 +62,19 @@ def built():
     """Ends the run where the program isn't built."""
     if not os.path.exists(QUILL):
         sys.exit("crates/quill/out/quill isn't built: run `rt run` in crates/quill first")
+
+
+def documents(work):
+    """The number of paragraphs of each document and its path, with what runs quill over it by the lines of a script."""
+    script = os.path.join(work, "script")
+    for paragraphs in (1_000, 10_000, 40_000):
+        path = os.path.join(work, f"{paragraphs}.fodt")
+        plain_file(path, paragraphs)
+        print(f"{paragraphs} paragraphs, {os.path.getsize(path)} bytes")
+
+        def quill(label, lines):
+            with open(script, "w", encoding="ascii") as out:
+                out.write("\n".join(lines))
+            return row(label, [QUILL, "run", path, script])
+
+        yield paragraphs, path, quill

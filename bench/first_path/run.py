@@ -10,24 +10,14 @@ import sys
 import tempfile
 
 sys.path.insert(0, os.path.dirname(os.path.dirname(os.path.abspath(__file__))))
-from program import QUILL, built, plain_file, row
+from program import built, documents, row
 
 
 def main():
     built()
     peer = shutil.which("xmllint")
     with tempfile.TemporaryDirectory() as work:
-        script = os.path.join(work, "script")
-        for paragraphs in (1_000, 10_000, 40_000):
-            path = os.path.join(work, f"{paragraphs}.fodt")
-            plain_file(path, paragraphs)
-            print(f"{paragraphs} paragraphs, {os.path.getsize(path)} bytes")
-
-            def quill(label, lines):
-                with open(script, "w", encoding="ascii") as out:
-                    out.write("\n".join(lines))
-                return row(label, [QUILL, "run", path, script])
-
+        for paragraphs, path, quill in documents(work):
             load = quill("quill: load", [])
             both = quill("quill: load and save", ["save"])
             print(f"    {'quill: save alone':<28} {(both - load) * 1000:10.1f} ms")

@@ -9,23 +9,13 @@ import sys
 import tempfile
 
 sys.path.insert(0, os.path.dirname(os.path.dirname(os.path.abspath(__file__))))
-from program import QUILL, built, plain_file, row
+from program import built, documents
 
 
 def main():
     built()
     with tempfile.TemporaryDirectory() as work:
-        script = os.path.join(work, "script")
-        for paragraphs in (1_000, 10_000, 40_000):
-            path = os.path.join(work, f"{paragraphs}.fodt")
-            plain_file(path, paragraphs)
-            print(f"{paragraphs} paragraphs, {os.path.getsize(path)} bytes")
-
-            def quill(label, lines):
-                with open(script, "w", encoding="ascii") as out:
-                    out.write("\n".join(lines))
-                return row(label, [QUILL, "run", path, script])
-
+        for paragraphs, _, quill in documents(work):
             load = quill("load", [])
             settled = quill("load, settle", ["settle"])
             again = quill("and an edit, and settle", ["settle", 'insert 1 0 "x"', "settle"])
