@@ -1,15 +1,17 @@
 //! A paragraph with its items.
 
-ghost use Rattle.std.specs.Prelude.{◌≡◌, ◌++◌, ◌&&◌, false, not, string_bytes, OnOk};
-ghost use Rattle.doc_model.specs.Spelling.{paragraph_bytes, content, is_space, item_bytes, escaped, spaces, stands_for_itself};
+ghost use Rattle.std.specs.Prelude.{◌≡◌, ◌++◌, ◌&&◌, not, string_bytes, OnOk};
+ghost use Rattle.std.specs.List.{AllByRecursion as Each};
+ghost use Rattle.spelling_model.specs.Spelling.{paragraph_bytes, content_bytes, is_space, item_bytes, escaped, spaces, is_there, IsWrittenItem, IsWrittenPar};
 
-use doc_model::spelling::{EMPTY_PARAGRAPH, PARAGRAPH, PARAGRAPH_END, SPACE, SPACES, SPACES_END};
+use spelling_model::{EMPTY_PARAGRAPH, PARAGRAPH, PARAGRAPH_END, SPACE, SPACES, SPACES_END};
 use doc_model::{Item, Par, What};
 use std::alloc::AllocError;
 
 /// Appends a paragraph.
-#[tactic(auto, unfolding(doc_model::specs::Spelling::empty_paragraph, doc_model::specs::Spelling::paragraph_start, doc_model::specs::Spelling::paragraph_end))]
+#[tactic(auto, unfolding(spelling_model::specs::Spelling::empty_paragraph, spelling_model::specs::Spelling::paragraph_start, spelling_model::specs::Spelling::paragraph_end))]
 pub(crate) fn push_paragraph(out: &mut String, par: &Par) -> Result<(), AllocError>
+    requires { IsWrittenPar par.now }
     ensures { OnOk result (string_bytes out.new ≡ string_bytes out.old ++ paragraph_bytes par.now) }
 {
     match par.items.as_slice() {
@@ -24,8 +26,10 @@ pub(crate) fn push_paragraph(out: &mut String, par: &Par) -> Result<(), AllocErr
 
 /// Appends the items of a paragraph. A space stands for itself only behind an item that isn't a space, and before
 /// another item; each other one waits, and is written with those beside it as one element.
+#[tactic(auto, using(spelling_model::proofs::Content::content_written))]
 fn push_items(out: &mut String, items: &[Item]) -> Result<(), AllocError>
-    ensures { OnOk result (string_bytes out.new ≡ string_bytes out.old ++ content 0 false items.now) }
+    requires { Each IsWrittenItem items.now }
+    ensures { OnOk result (string_bytes out.new ≡ string_bytes out.old ++ content_bytes items.now) }
 {
     let mut waiting = 0;
     let mut after_word = false;
@@ -47,7 +51,7 @@ fn push_items(out: &mut String, items: &[Item]) -> Result<(), AllocError>
 
 /// Whether an item is a space that can't stand for itself.
 fn waits(item: &Item, after_word: bool, after: &[Item]) -> bool
-    ensures { result ≡ (is_space item.now && not (stands_for_itself after_word after.now)) }
+    ensures { result ≡ (is_space item.now && not (after_word && is_there after.now)) }
 {
     is_space(item) && !(after_word && !after.is_empty())
 }
@@ -61,7 +65,7 @@ fn is_space(item: &Item) -> bool
     }
 }
 
-/// Appends an item as it stands; what isn't a character has no spelling yet.
+/// Appends a character as it stands. Other items aren't written yet.
 fn push_item(out: &mut String, item: &Item) -> Result<(), AllocError>
     ensures { OnOk result (string_bytes out.new ≡ string_bytes out.old ++ item_bytes item.now) }
 {
@@ -71,7 +75,7 @@ fn push_item(out: &mut String, item: &Item) -> Result<(), AllocError>
     }
 }
 
-#[tactic(auto, unfolding(doc_model::specs::Spelling::escaped))]
+#[tactic(auto, unfolding(spelling_model::specs::Spelling::escaped))]
 fn push_escaped(out: &mut String, letter: char) -> Result<(), AllocError>
     ensures { OnOk result (string_bytes out.new ≡ string_bytes out.old ++ escaped letter) }
 {
@@ -84,7 +88,7 @@ fn push_escaped(out: &mut String, letter: char) -> Result<(), AllocError>
 }
 
 /// Appends so many spaces that can't stand for themselves.
-#[tactic(auto, unfolding(doc_model::specs::Spelling::spaces))]
+#[tactic(auto, unfolding(spelling_model::specs::Spelling::spaces))]
 fn push_spaces(out: &mut String, count: usize) -> Result<(), AllocError>
     ensures { OnOk result (string_bytes out.new ≡ string_bytes out.old ++ spaces count) }
 {

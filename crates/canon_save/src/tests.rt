@@ -1,15 +1,18 @@
 //! The bytes of documents of few characters.
 
+ghost use Rattle.std.specs.Prelude.{IfOk};
+ghost use Rattle.spelling_model.specs.Spelling.{IsWritten, IsWrittenBlock};
+
 use crate::save;
-use doc_model::spelling::{BODY, ROOT, ROOT_END, TAIL};
-use doc_model::{
-    Block, Document, Item, List, ListStyle, Name, NoteStart, Par, ParId, Props, Spans, What,
-};
+use spelling_model::{BODY, ROOT, ROOT_END, TAIL};
+use doc_model::{Block, Document, Item, List, Name, Par, ParId, Spans, What};
 use sqlite_items::Items;
 use std::alloc::{AllocError, Global};
 use std::test::Fail;
 
-fn paragraph(alloc: Global, text: &str) -> Result<Block, AllocError> {
+fn paragraph(alloc: Global, text: &str) -> Result<Block, AllocError>
+    ensures { IfOk result (λ block. IsWrittenBlock block) }
+{
     let mut items = Items::new(alloc);
     for letter in text.chars() {
         items.push(Item {
@@ -26,45 +29,12 @@ fn paragraph(alloc: Global, text: &str) -> Result<Block, AllocError> {
     }))
 }
 
-fn document(alloc: Global, text: &str) -> Result<Document, AllocError> {
+fn document(alloc: Global, text: &str) -> Result<Document, AllocError>
+    ensures { IfOk result (λ doc. IsWritten doc) }
+{
     let mut body = List::new(alloc);
     body.push(paragraph(alloc, text)?)?;
-    Ok(Document {
-        global: false,
-        defaults: unstated(),
-        styles: List::new(alloc),
-        lists: List::new(alloc),
-        outline: ListStyle {
-            name: Name::none(alloc),
-            levels: List::new(alloc),
-        },
-        layouts: List::new(alloc),
-        masters: List::new(alloc),
-        variables: List::new(alloc),
-        sequences: List::new(alloc),
-        counting: NoteStart::Document,
-        body,
-    })
-}
-
-fn unstated() -> Props {
-    Props {
-        margin_left: None,
-        margin_right: None,
-        margin_top: None,
-        margin_bottom: None,
-        indent: None,
-        align: None,
-        break_before: None,
-        break_after: None,
-        keep_next: None,
-        keep_together: None,
-        widows: None,
-        orphans: None,
-        page_number: None,
-        display: None,
-        tabs: None,
-    }
+    Ok(Document::from_body(alloc, body))
 }
 
 #[test]

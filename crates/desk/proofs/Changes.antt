@@ -3,12 +3,12 @@ use Rattle.std.proofs.Common.{◌≡◌, ℕ, Bool, List, [], ◌∷◌, ap, sym
 use Rattle.std.specs.Prelude.{map}
 use Rattle.std.specs.List.{AllByRecursion as Each}
 use Rattle.doc_model.specs.declared.document.Document.{Document}
-use Rattle.doc_model.specs.Past.{Past, Entry, after_group, after_undo, after_redo}
+use Rattle.edit_model.specs.Past.{Past, Entry, after_group, after_undo, after_redo}
 use Rattle.doc_model.specs.Plain.{IsPlain}
 use Rattle.doc_model.specs.Reading.{paragraphs, number_of}
-use Rattle.desk_model.specs.Stops.{paragraph_count}
-use Rattle.desk_model.specs.Idle.{Idle}
-use Rattle.desk_model.specs.Reached.{IsReached}
+use Rattle.round_model.specs.Stops.{paragraph_count}
+use Rattle.round_model.specs.Idle.{Idle}
+use Rattle.round_model.specs.Reached.{IsReached}
 use Rattle.desk.specs.PlainPast.{IsPlainPast}
 use Rattle.desk.specs.DeskState.{HasOneCount, IsDeskState}
 use Rattle.desk.proofs.Numbers.{same_numbers}

@@ -9,13 +9,13 @@ use Rattle.doc_model.specs.declared.edit.EditOp.TheVariants.{InsertText, DeleteR
 use Rattle.doc_model.specs.declared.refusal.Refusal.{Refusal}
 use Rattle.doc_model.specs.declared.refusal.Refusal.TheVariants as refusal
 use Rattle.doc_model.specs.declared.refusal.Limit.TheVariants.{Operations}
-use Rattle.doc_model.specs.Edit.{Edited, edited, edited_by, edited_by_group, first_refusal, with_text, without_range}
+use Rattle.edit_model.specs.Edit.{Edited, edited, edited_by, edited_by_group, first_refusal, with_text, without_range}
 use Rattle.doc_model.specs.Limits.{limit_number}
 use Rattle.doc_model.specs.Plain.{IsPlain, plain_document}
 use Rattle.plain_doc.specs.PlainParts.{with_changed}
 use Rattle.plain_doc.proofs.Edited.{with_items-plain, with_text-plain, without_range-plain}
 use Rattle.plain_doc.proofs.Valid.{measure-paragraphs}
-use Rattle.desk_model.specs.Stops.{paragraph_count}
+use Rattle.round_model.specs.Stops.{paragraph_count}
 use Rattle.edit_ops.specs.PlainOps.{IsPlainOp}
 
 length-with_changed : (number : ℕ) (new : List ℕ → List ℕ) (here : ℕ) (texts : List (List ℕ)) → length (with_changed number new here texts) ≡ length texts

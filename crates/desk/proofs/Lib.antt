@@ -6,3 +6,4 @@ pub mod Edits
 pub mod LiveParagraph
 pub mod PageReplies
 pub mod Runs
+pub mod Touched

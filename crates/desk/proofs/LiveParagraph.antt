@@ -8,7 +8,7 @@ use Rattle.doc_model.specs.declared.block.Block.{Block}
 use Rattle.doc_model.specs.declared.block.Block.TheVariants as block
 use Rattle.doc_model.specs.declared.block.Section.{Section}
 use Rattle.doc_model.specs.declared.document.Document.{Document}
-use Rattle.doc_model.specs.Edit.{live_paragraph}
+use Rattle.edit_model.specs.Edit.{live_paragraph}
 use Rattle.doc_model.specs.Parts.{items_of}
 use Rattle.doc_model.specs.Plain.{IsPlain, plain_paragraph}
 use Rattle.plain_doc.proofs.Edited.{live_paragraph-plain}

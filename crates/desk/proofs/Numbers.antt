@@ -8,7 +8,7 @@ use Rattle.doc_model.specs.Plain.{IsPlain, plain_document, plain_blocks}
 use Rattle.doc_model.specs.Valid.{IsValid}
 use Rattle.plain_doc.proofs.Parts.{paragraphs-plain}
 use Rattle.plain_doc.proofs.Valid.{numbers-plain, measure-paragraphs, ArePlainTexts-valid}
-use Rattle.desk_model.specs.Stops.{paragraph_count}
+use Rattle.round_model.specs.Stops.{paragraph_count}
 
 fold_max-upwards : (most first count : ℕ) → most + 1 ≡ first → fold max most (upwards first count) ≡ most + count
 fold_max-upwards most first zero e = omega arith

@@ -5,7 +5,7 @@ use Rattle.std.proofs.lemmas.Bool.{eq-eqb}
 use Rattle.doc_model.specs.declared.page.Page.{Page}
 use Rattle.desk_model.specs.declared.reply.Reply.{Reply}
 use Rattle.desk_model.specs.declared.reply.Reply.TheVariants as reply
-use Rattle.desk_model.specs.Rounds.{pages_in, last_round}
+use Rattle.round_model.specs.Rounds.{pages_in, last_round}
 use Rattle.desk_model.specs.Desk.{State, present, page_reply}
 
 -- the reply tells the page of an index, or how many pages there are

@@ -2,7 +2,7 @@
 use Rattle.std.proofs.Common.{ℕ, Bool, List, [], ◌∷◌, take, zero, suc}
 use Rattle.std.specs.List.{AllByRecursion as Each}
 use Rattle.doc_model.specs.declared.document.Document.{Document}
-use Rattle.doc_model.specs.Past.{Past, Entry, after_group}
+use Rattle.edit_model.specs.Past.{Past, Entry, after_group}
 use Rattle.doc_model.specs.Plain.{IsPlain}
 use Rattle.desk.specs.PlainPast.{IsPlainPast}
 

@@ -1,10 +1,10 @@
 -- What holds of every desk.
 use Rattle.std.specs.Prelude.{◌≡◌}
 use Rattle.std.specs.List.{AllByRecursion as Each}
-use Rattle.doc_model.specs.Past.{Past}
-use Rattle.desk_model.specs.Stops.{paragraph_count}
-use Rattle.desk_model.specs.Idle.{Idle}
-use Rattle.desk_model.specs.Reached.{IsReached}
+use Rattle.edit_model.specs.Past.{Past}
+use Rattle.round_model.specs.Stops.{paragraph_count}
+use Rattle.round_model.specs.Idle.{Idle}
+use Rattle.round_model.specs.Reached.{IsReached}
 use Rattle.desk.specs.PlainPast.{IsPlainPast}
 
 -- every document that a past holds has as many paragraphs as the present one

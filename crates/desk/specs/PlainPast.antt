@@ -1,6 +1,6 @@
 -- Pasts of plain documents.
 use Rattle.std.specs.List.{AllByRecursion as Each}
-use Rattle.doc_model.specs.Past.{Past}
+use Rattle.edit_model.specs.Past.{Past}
 use Rattle.doc_model.specs.Plain.{IsPlain}
 
 -- every document that a past holds is plain

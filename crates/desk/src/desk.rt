@@ -2,12 +2,13 @@
 
 ghost use Rattle.std.specs.Prelude.{◌≡◌, ◌≢◌, ◌≤◌, ℕ, length, map, take, Some, None, IfOk, OnErr};
 ghost use Rattle.std.specs.List.{AllByRecursion as Each, list_any};
-ghost use Rattle.desk_model.specs.Desk.{start_at, after_edit, changed, present, step, steps, taken_reply, published_reply, touched_by, is_restyling};
-ghost use Rattle.desk_model.specs.Idle.{restarted, most_keys};
-ghost use Rattle.desk_model.specs.Reached.{IsReached};
-ghost use Rattle.desk_model.specs.Rounds.{pages_in, last_round};
-ghost use Rattle.desk_model.specs.Stops.{paragraph_count};
-ghost use Rattle.doc_model.specs.Past.{after_group};
+ghost use Rattle.desk_model.specs.Desk.{start_at, after_edit, changed, present, step, steps, taken_reply, published_reply, opened};
+ghost use Rattle.edit_model.specs.Edit.{touched_by, is_restyling};
+ghost use Rattle.round_model.specs.Idle.{restarted, most_keys};
+ghost use Rattle.round_model.specs.Reached.{IsReached};
+ghost use Rattle.round_model.specs.Rounds.{pages_in, last_round};
+ghost use Rattle.round_model.specs.Stops.{paragraph_count};
+ghost use Rattle.edit_model.specs.Past.{after_group};
 ghost use Rattle.doc_model.specs.Reading.{paragraphs, number_of};
 ghost use Rattle.doc_model.specs.Plain.{IsPlain};
 ghost use Rattle.edit_ops.specs.PlainOps.{IsPlainOp};
@@ -18,7 +19,8 @@ use crate::group::{restyles, touched_by};
 use crate::live::live_paragraph;
 use crate::pages::page_reply;
 use crate::past::Past;
-use desk_model::{Command, Published, Reply, Taken};
+use desk_model::{Command, Reply};
+use round_model::{Published, Taken};
 use doc_model::{Document, Group, List, ParId};
 use edit_ops::{EditFault, edited_by_group};
 use idle_queue::Agenda;
@@ -114,8 +116,8 @@ impl Desk {
             Command::Edit(group) => self.edit(group),
             Command::Undo => self.undo(),
             Command::Redo => self.redo(),
-            Command::Take => Ok(self.take()?.into_reply()),
-            Command::Publish(formed) => Ok(self.publish(formed)?.into_reply()),
+            Command::Take => Ok(Reply::of_taken(self.take()?)),
+            Command::Publish(formed) => Ok(Reply::of_published(self.publish(formed)?)),
             Command::Page(index) => self.page(*index),
             Command::Text(par) => self.text(*par),
             Command::Save => self.save(),
@@ -256,8 +258,8 @@ impl Desk {
         requires plain { IsPlain document }
         requires count { paragraph_count document ≡ paragraph_count (present self.old) }
         ensures ok { IfOk result (λ reply. (reply, self.new)
-            ≡ changed self.old (after_group self.old.past document (touched_by group.now.0) (list_any is_restyling group.now.0)) self.old.next
-            (touched_by group.now.0) (list_any is_restyling group.now.0)) }
+            ≡ changed self.old (after_group self.old.past document (touched_by (opened self.old) group.now.0) (list_any is_restyling group.now.0)) self.old.next
+            (touched_by (opened self.old) group.now.0) (list_any is_restyling group.now.0)) }
         ensures err { OnErr result (self.new ≡ self.old) }
     {
         if self.version == LAST_VERSION {

@@ -17,7 +17,7 @@ pub(crate) struct Entry {
 impl Model for Entry {
     ghost use Rattle.std.specs.Coded.{codes};
     ghost use Rattle.doc_model.specs.contracts.document.Document as contract;
-    ghost use Rattle.doc_model.specs.Past as past;
+    ghost use Rattle.edit_model.specs.Past as past;
 
     ghost Value = { past.Entry };
 

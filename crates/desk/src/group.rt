@@ -1,27 +1,26 @@
 //! What a group of edits touches.
 
-ghost use Rattle.std.specs.Prelude.{◌≡◌, ◌++◌, map, IfOk, OnOk};
+ghost use Rattle.std.specs.Prelude.{◌≡◌, ◌++◌, IfOk, OnOk};
 ghost use Rattle.std.specs.List.{list_any};
-ghost use Rattle.desk_model.specs.Desk.{touched_by, is_restyling};
-ghost use Rattle.doc_model.specs.Edit.{named_paragraphs};
+ghost use Rattle.edit_model.specs.Edit.{Edited, touched as touches, touched_by, is_restyling};
 
 use doc_model::{EditOp, Group, List};
 use std::alloc::{AllocError, Global};
 
-/// The numbers of the paragraphs that the edits name, in their order.
+/// The numbers of the paragraphs that the edits touch, in whatever document they are made.
 pub(crate) fn touched_by(alloc: Global, group: &Group) -> Result<List<u32>, AllocError>
-    ensures { IfOk result (λ touched. touched ≡ touched_by group.now.0) }
+    ensures { IfOk result (λ touched. (old : Edited) → touched ≡ touched_by old group.now.0) }
 {
     let mut touched = List::new(alloc);
     for op in group.0.get() {
-        push_named(&mut touched, op)?;
+        push_touched(&mut touched, op)?;
     }
     Ok(touched)
 }
 
-// Adds the numbers of the paragraphs that an edit names.
-fn push_named(touched: &mut List<u32>, op: &EditOp) -> Result<(), AllocError>
-    ensures { OnOk result (touched.new ≡ touched.old ++ map (λ par. par.0) (named_paragraphs op.now)) }
+// Adds the numbers of the paragraphs that an edit touches.
+fn push_touched(touched: &mut List<u32>, op: &EditOp) -> Result<(), AllocError>
+    ensures { OnOk result ((old : Edited) → touched.new ≡ touched.old ++ touches old op.now) }
 {
     match op {
         EditOp::InsertText { par, .. } => touched.push(par.0),

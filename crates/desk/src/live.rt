@@ -2,7 +2,7 @@
 
 ghost use Rattle.std.specs.Prelude.{◌≡◌};
 ghost use Rattle.std.specs.Option.{option_copied};
-ghost use Rattle.doc_model.specs.Edit.{live_paragraph};
+ghost use Rattle.edit_model.specs.Edit.{live_paragraph};
 ghost use Rattle.doc_model.specs.Plain.{IsPlain};
 
 use doc_model::{Block, Document, Par, ParId};

@@ -1,7 +1,7 @@
 //! The past of a document: what undo goes back to, and redo forth.
 
 ghost use Rattle.std.specs.Prelude.{◌≡◌, ◌≢◌, ◌↔◌, [], IsTrue, OnOk, OnErr, slice_get};
-ghost use Rattle.doc_model.specs.Past.{no_past, after_group, after_undo, after_redo};
+ghost use Rattle.edit_model.specs.Past.{no_past, after_group, after_undo, after_redo};
 
 use crate::entry::Entry;
 use doc_model::{Document, List};
@@ -26,7 +26,7 @@ pub(crate) struct Past {
 impl Model for Past {
     ghost use Rattle.std.specs.Coded.{codes};
     ghost use Rattle.doc_model.specs.contracts.document.Document as contract;
-    ghost use Rattle.doc_model.specs.Past as past;
+    ghost use Rattle.edit_model.specs.Past as past;
 
     ghost Value = { past.Past };
 

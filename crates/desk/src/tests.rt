@@ -5,7 +5,7 @@ ghost use Rattle.std.specs.List.{AllByRecursion as Each};
 ghost use Rattle.doc_model.specs.declared.block.Block.{roll-Block};
 ghost use Rattle.doc_model.specs.declared.block.Block.TheOpen.{Block-F};
 ghost use Rattle.doc_model.specs.Plain.{plain_blocks, plain_document, plain_paragraph};
-ghost use Rattle.doc_model.specs.Valid.{unstated as nothing_stated};
+ghost use Rattle.doc_model.specs.Empty.{unstated as nothing_stated};
 ghost use Rattle.edit_ops.specs.PlainOps.{IsPlainOp};
 
 use crate::Desk;
@@ -18,7 +18,7 @@ use sqlite_items::Items;
 use std::alloc::{AllocError, Global};
 use std::test::Fail;
 
-#[tactic(auto, unfolding(doc_model::specs::Valid::unstated))]
+#[tactic(auto, unfolding(doc_model::specs::Empty::unstated))]
 fn unstated() -> Props
     ensures { result ≡ nothing_stated }
 {

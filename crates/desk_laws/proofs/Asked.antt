@@ -3,11 +3,11 @@ use Rattle.std.proofs.Common.{◌≡◌, false, refl, ap, sym, ◌∙◌, subst,
 use Rattle.line_model.specs.declared.job.Job.{Job}
 use Rattle.desk_model.specs.declared.command.Command.TheVariants as command
 use Rattle.desk_model.specs.declared.reply.Reply.TheVariants as reply
-use Rattle.desk_model.specs.declared.turn.Taken.{Taken}
-use Rattle.desk_model.specs.Idle.{Idle, Live, live_at, keeps, stamp_of}
+use Rattle.round_model.specs.declared.turn.Taken.{Taken}
+use Rattle.round_model.specs.Idle.{Idle, Live, live_at, keeps, stamp_of}
 use Rattle.desk_model.specs.Desk.{State, present, taken_reply}
 use Rattle.desk_laws.specs.Steps.{reply_to, after}
-use Rattle.desk_model.proofs.TakeCases.{TakeCase, take_case}
+use Rattle.round_model.proofs.TakeCases.{TakeCase, take_case}
 
 -- a job is that of a live paragraph, with its stamp and a key that it doesn't keep, and asking for it leaves all
 pub record IsAsked (state : State) (job : Job) : Type 0 where

@@ -4,7 +4,7 @@ use Rattle.std.specs.Prelude.{if◌then◌else◌, ◌==◌}
 use Rattle.std.specs.List.{AllByRecursion as Each}
 use Rattle.std.specs.Option.{option_map}
 use Rattle.line_model.specs.declared.key.Key.{Key}
-use Rattle.desk_model.specs.Idle.{Live, live_at, with_live}
+use Rattle.round_model.specs.Idle.{Live, live_at, with_live}
 use Rattle.desk_model.specs.Desk.{State}
 
 -- the version that last touched the paragraph with this number, if it is live

@@ -8,17 +8,17 @@ use Rattle.doc_model.specs.Reading.{paragraphs, number_of}
 use Rattle.line_model.specs.declared.key.Key.{Key}
 use Rattle.desk_model.specs.declared.command.Command.{Command}
 use Rattle.desk_model.specs.declared.reply.Reply.{Reply}
-use Rattle.desk_model.specs.Keys.{key_of}
-use Rattle.desk_model.specs.Rounds.{SetPar, set_in, last_round}
-use Rattle.desk_model.specs.Idle.{Idle, Live, live_at, live_after, is_in_use}
-use Rattle.desk_model.specs.Reached.{IsReached}
+use Rattle.line_model.specs.Keys.{key_of}
+use Rattle.round_model.specs.Rounds.{SetPar, set_in, last_round}
+use Rattle.round_model.specs.Idle.{Idle, Live, live_at, live_after, is_in_use}
+use Rattle.round_model.specs.Reached.{IsReached}
 use Rattle.desk_model.specs.Desk.{State, present}
-use Rattle.desk_model.proofs.KeyLemmas.{is_same_key-refl}
+use Rattle.line_model.proofs.KeyLemmas.{is_same_key-refl}
 use Rattle.desk_laws.specs.Steps.{reply_to, after}
 use Rattle.desk_laws.specs.Changes.{is_change, has_paragraph, touched_at}
 use Rattle.desk_laws.specs.Promises.{key_in, KeepsLines}
 use Rattle.desk_laws.proofs.StepCases.{StepCase, step_case}
-use Rattle.desk_model.proofs.LiveLemmas.{renewed, live_at-live_after}
+use Rattle.round_model.proofs.LiveLemmas.{renewed, live_at-live_after}
 
 -- the paragraph that stays after a change
 stays_live : (old : List Live) (doc : Document) (touched : List ℕ) (version number : ℕ) (live : Live) → live_at number old ≡ Some live → has_paragraph doc number ≡ true

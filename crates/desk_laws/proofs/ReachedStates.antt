@@ -4,9 +4,9 @@ use Rattle.doc_model.specs.declared.document.Document.{Document}
 use Rattle.desk_model.specs.declared.command.Command.{Command}
 use Rattle.desk_model.specs.declared.command.Command.TheVariants as command
 use Rattle.desk_model.specs.declared.reply.Reply.{Reply}
-use Rattle.desk_model.specs.Reached.{IsReached}
+use Rattle.round_model.specs.Reached.{IsReached}
 use Rattle.desk_model.specs.Desk.{State, present, start_at}
-use Rattle.desk_model.proofs.ReachedLemmas.{AreFirst, AreFirst-start, AreFirst-live_after, AreFirst-take, AreFirst-publish, IsReached-start, IsReached-restarted, IsReached-take, IsReached-publish}
+use Rattle.round_model.proofs.ReachedLemmas.{AreFirst, AreFirst-start, AreFirst-live_after, AreFirst-take, AreFirst-publish, IsReached-start, IsReached-restarted, IsReached-take, IsReached-publish}
 use Rattle.desk_laws.specs.Steps.{after, after_all}
 use Rattle.desk_laws.specs.Changes.{touched_at, is_restyling_at}
 use Rattle.desk_laws.proofs.StepCases.{StepCase, step_case, IsIdleTurn}

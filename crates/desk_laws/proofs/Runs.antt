@@ -1,12 +1,12 @@
 -- What lists of commands keep.
 use Rattle.std.proofs.Common.{◌≡◌, ℕ, ◌≤◌, true, false, List, [], ◌∷◌, ap, sym, ◌∙◌, arith}
 use Rattle.doc_model.specs.declared.document.Document.{Document}
-use Rattle.doc_model.specs.Past.{Past}
-use Rattle.doc_model.specs.Spelling.{canonical}
+use Rattle.edit_model.specs.Past.{Past}
+use Rattle.spelling_model.specs.Spelling.{canonical}
 use Rattle.desk_model.specs.declared.command.Command.{Command}
 use Rattle.desk_model.specs.declared.reply.Reply.{Reply}
 use Rattle.desk_model.specs.declared.reply.Reply.TheVariants as reply
-use Rattle.desk_model.specs.Stops.{paragraph_count, full_debt}
+use Rattle.round_model.specs.Stops.{paragraph_count, full_debt}
 use Rattle.desk_model.specs.Desk.{State, present, start_at, step}
 use Rattle.desk_laws.specs.Steps.{reply_to, after, after_all, ShowSame}
 use Rattle.desk_laws.specs.Changes.{is_change, HasNoChange}

@@ -7,12 +7,12 @@ use Rattle.desk_model.specs.declared.command.Command.{Command}
 use Rattle.desk_model.specs.declared.command.Command.TheVariants as command
 use Rattle.desk_model.specs.declared.reply.Reply.{Reply}
 use Rattle.desk_model.specs.declared.reply.Reply.TheVariants as reply
-use Rattle.desk_model.specs.declared.turn.Taken.{Taken}
-use Rattle.desk_model.specs.Stops.{debt_behind}
-use Rattle.desk_model.specs.Idle.{Idle, stamp_of, take, publish}
+use Rattle.round_model.specs.declared.turn.Taken.{Taken}
+use Rattle.round_model.specs.Stops.{debt_behind}
+use Rattle.round_model.specs.Idle.{Idle, stamp_of, take, publish}
 use Rattle.desk_model.specs.Desk.{State, present, taken_reply, step}
 use Rattle.desk_model.specs.Runs.{turn, turns, settle}
-use Rattle.desk_model.proofs.TakeCases.{TakeCase, take_case}
+use Rattle.round_model.proofs.TakeCases.{TakeCase, take_case}
 use Rattle.desk_laws.specs.Steps.{after, after_all}
 use Rattle.desk_laws.specs.Changes.{HasNoChange}
 use Rattle.desk_laws.proofs.Settles.{turn_passed, turn_asked}

@@ -8,17 +8,17 @@ use Rattle.line_model.specs.declared.job.Stamp.{Stamp}
 use Rattle.desk_model.specs.declared.command.Command.TheVariants as command
 use Rattle.desk_model.specs.declared.reply.Reply.{Reply}
 use Rattle.desk_model.specs.declared.reply.Reply.TheVariants as reply
-use Rattle.desk_model.specs.declared.turn.Taken.{Taken}
-use Rattle.desk_model.specs.declared.turn.Published.{Published}
-use Rattle.desk_model.specs.Rounds.{SetPar}
-use Rattle.desk_model.specs.Stops.{Stop, stop_at, paragraph_count, debt_behind}
-use Rattle.desk_model.specs.Idle.{Idle, Live, live_at, set_at, keeps, stamp_of, is_same_stamp, is_form_stop_of}
+use Rattle.round_model.specs.declared.turn.Taken.{Taken}
+use Rattle.round_model.specs.declared.turn.Published.{Published}
+use Rattle.round_model.specs.Rounds.{SetPar}
+use Rattle.round_model.specs.Stops.{Stop, stop_at, paragraph_count, debt_behind}
+use Rattle.round_model.specs.Idle.{Idle, Live, live_at, set_at, keeps, stamp_of, is_same_stamp, is_form_stop_of}
 use Rattle.desk_model.specs.Desk.{State, present, taken_reply, step}
 use Rattle.desk_model.specs.Runs.{turn, turns, settle}
-use Rattle.desk_model.proofs.KeyLemmas.{is_same_key-refl}
-use Rattle.desk_model.proofs.TakeCases.{TakeCase, take_case}
-use Rattle.desk_model.proofs.StopLemmas.{debt_behind-lt}
-use Rattle.desk_model.proofs.PublishCases.{PublishCase, publish_case}
+use Rattle.line_model.proofs.KeyLemmas.{is_same_key-refl}
+use Rattle.round_model.proofs.TakeCases.{TakeCase, take_case}
+use Rattle.round_model.proofs.StopLemmas.{debt_behind-lt}
+use Rattle.round_model.proofs.PublishCases.{PublishCase, publish_case}
 
 same_stamp : (stamp : Stamp) → is_same_stamp stamp stamp ≡ true
 same_stamp stamp = and_from (stamp.revision == stamp.revision) (stamp.epoch == stamp.epoch) (eq-eqb stamp.revision stamp.revision refl) (eq-eqb stamp.epoch stamp.epoch refl)

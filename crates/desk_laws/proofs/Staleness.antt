@@ -5,23 +5,23 @@ use Rattle.std.specs.List.{list_any}
 use Rattle.std.specs.Option.{option_map}
 use Rattle.std.proofs.lemmas.Bool.{eqb-true, eq-eqb, and_from, and_parts, or_cases}
 use Rattle.doc_model.specs.declared.document.Document.{Document}
-use Rattle.doc_model.specs.Past.{Past}
+use Rattle.edit_model.specs.Past.{Past}
 use Rattle.line_model.specs.declared.job.Job.{Job}
 use Rattle.line_model.specs.declared.job.Stamp.{Stamp}
 use Rattle.desk_model.specs.declared.command.Command.{Command}
 use Rattle.desk_model.specs.declared.command.Command.TheVariants as command
 use Rattle.desk_model.specs.declared.reply.Reply.{Reply}
 use Rattle.desk_model.specs.declared.reply.Reply.TheVariants as reply
-use Rattle.desk_model.specs.declared.turn.Published.{Published}
-use Rattle.desk_model.specs.Idle.{Idle, Live, live_at, live_after, stamp_of, is_same_stamp, restarted}
+use Rattle.round_model.specs.declared.turn.Published.{Published}
+use Rattle.round_model.specs.Idle.{Idle, Live, live_at, live_after, stamp_of, is_same_stamp, restarted}
 use Rattle.desk_model.specs.Desk.{State, present, published_reply}
 use Rattle.desk_laws.specs.Steps.{reply_to, after, after_all}
 use Rattle.desk_laws.specs.Changes.{is_change, has_paragraph, touched_at, is_restyling_at, is_outdating, are_outdated_by}
 use Rattle.desk_laws.specs.Promises.{AreStampsPast, present_stamp, are_kept}
 use Rattle.desk_laws.proofs.Kept.{revision_at}
-use Rattle.desk_model.proofs.PublishCases.{PublishCase, publish_case}
+use Rattle.round_model.proofs.PublishCases.{PublishCase, publish_case}
 use Rattle.desk_laws.proofs.StepCases.{StepCase, step_case}
-use Rattle.desk_model.proofs.LiveLemmas.{renewed, live_at-live_after, Each-found}
+use Rattle.round_model.proofs.LiveLemmas.{renewed, live_at-live_after, Each-found}
 use Rattle.desk_laws.proofs.Asked.{IsAsked, asked}
 
 -- the state after a change

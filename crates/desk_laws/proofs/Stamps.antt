@@ -5,18 +5,18 @@ use Rattle.std.specs.List.{AllByRecursion as Each}
 use Rattle.std.proofs.lemmas.Bool.{cond_both}
 use Rattle.doc_model.specs.declared.document.Document.{Document}
 use Rattle.doc_model.specs.declared.paragraph.Par.{Par}
-use Rattle.doc_model.specs.Past.{Past}
+use Rattle.edit_model.specs.Past.{Past}
 use Rattle.doc_model.specs.Reading.{paragraphs, number_of}
 use Rattle.desk_model.specs.declared.command.Command.{Command}
 use Rattle.desk_model.specs.declared.reply.Reply.{Reply}
-use Rattle.desk_model.specs.Idle.{Live, restarted}
+use Rattle.round_model.specs.Idle.{Live, restarted}
 use Rattle.desk_model.specs.Desk.{State, start_at}
 use Rattle.desk_laws.specs.Steps.{after, after_all}
 use Rattle.desk_laws.specs.Changes.{touched_at, is_restyling_at}
 use Rattle.desk_laws.specs.Promises.{AreStampsPast}
 use Rattle.desk_laws.proofs.Kept.{IsKept}
 use Rattle.desk_laws.proofs.StepCases.{StepCase, step_case}
-use Rattle.desk_model.proofs.LiveLemmas.{Each-live_after}
+use Rattle.round_model.proofs.LiveLemmas.{Each-live_after}
 
 Each-more : (bound more : ℕ) → bound ≤ more → (lives : List Live) → Each (λ live. live.revision ≤ bound) lives → Each (λ live. live.revision ≤ more) lives
 Each-more bound more h [] each = tt

@@ -11,26 +11,27 @@ use Rattle.doc_model.specs.declared.page.Page.{Page}
 use Rattle.doc_model.specs.declared.paragraph.Par.{Par}
 use Rattle.doc_model.specs.declared.paragraph.ParId.{ParId}
 use Rattle.doc_model.specs.declared.refusal.Refusal.{Refusal}
-use Rattle.doc_model.specs.Edit.{live_paragraph, Edited, edited, edited_by, edited_by_group, first_refusal}
-use Rattle.doc_model.specs.Past.{Past, Entry, after_group, after_undo, after_redo}
-use Rattle.doc_model.specs.Spelling.{canonical}
+use Rattle.edit_model.specs.Edit.{live_paragraph, Edited, edited, edited_by, edited_by_group, first_refusal}
+use Rattle.edit_model.specs.Past.{Past, Entry, after_group, after_undo, after_redo}
+use Rattle.spelling_model.specs.Spelling.{canonical}
 use Rattle.line_model.specs.declared.key.Key.{Key}
 use Rattle.line_model.specs.declared.job.Job.{Job}
 use Rattle.desk_model.specs.declared.command.Command.{Command}
 use Rattle.desk_model.specs.declared.command.Command.TheVariants as command
 use Rattle.desk_model.specs.declared.reply.Reply.{Reply}
 use Rattle.desk_model.specs.declared.reply.Reply.TheVariants as reply
-use Rattle.desk_model.specs.declared.turn.Taken.{Taken}
-use Rattle.desk_model.specs.declared.turn.Published.{Published}
-use Rattle.desk_model.specs.Keys.{text_of}
-use Rattle.desk_model.specs.Rounds.{pages_in, last_round}
-use Rattle.desk_model.specs.Stops.{debt_behind}
-use Rattle.desk_model.specs.Idle.{Idle, Live, stamp_of, with_live, restarted, with_key, is_in_use}
-use Rattle.desk_model.specs.Desk.{State, present, last_version, touched_by, is_restyling, changed, after_edit, after_step, taken_reply, published_reply, page_reply, text_reply, step}
+use Rattle.round_model.specs.declared.turn.Taken.{Taken}
+use Rattle.round_model.specs.declared.turn.Published.{Published}
+use Rattle.line_model.specs.Keys.{text_of}
+use Rattle.round_model.specs.Rounds.{pages_in, last_round}
+use Rattle.round_model.specs.Stops.{debt_behind}
+use Rattle.round_model.specs.Idle.{Idle, Live, stamp_of, with_live, restarted, with_key, is_in_use}
+use Rattle.edit_model.specs.Edit.{touched_by, is_restyling}
+use Rattle.desk_model.specs.Desk.{State, present, last_version, opened, changed, after_edit, after_step, taken_reply, published_reply, page_reply, text_reply, step}
 use Rattle.desk_laws.specs.Steps.{reply_to, after}
 use Rattle.desk_laws.specs.Changes.{is_change, leaves_all, touched_at, is_restyling_at, touched_next, restyled_next}
-use Rattle.desk_model.proofs.TakeCases.{TakeCase, take_case}
-use Rattle.desk_model.proofs.PublishCases.{PublishCase, publish_case, entered, debt_after, debt_after-le, debt_behind-le}
+use Rattle.round_model.proofs.TakeCases.{TakeCase, take_case}
+use Rattle.round_model.proofs.PublishCases.{PublishCase, publish_case, entered, debt_after, debt_after-le, debt_behind-le}
 use Rattle.desk_laws.proofs.Kept.{IsKept, IsKept-same, revision_at-with_live, Each-with_live}
 
 -- the commands that move the idle work on
@@ -105,7 +106,7 @@ edited_by_group-next old ops new e = edited_by-next old 0 ops new (not_too_many 
 
 -- edits
 pub edit_changes : (old : State) (ops : List EditOp) (new : Edited) → edited_by_group (record { document = present old; next = old.next }) ops ≡ Ok new
-    → after_edit old ops ≡ changed old (after_group old.past new.document (touched_by ops) (list_any is_restyling ops)) new.next (touched_by ops) (list_any is_restyling ops)
+    → after_edit old ops ≡ changed old (after_group old.past new.document (touched_by (opened old) ops) (list_any is_restyling ops)) new.next (touched_by (opened old) ops) (list_any is_restyling ops)
 edit_changes old ops new e = rw (e, after_edit)
 
 pub edit_refused : (old : State) (ops : List EditOp) (refused : ℕ × Refusal) → edited_by_group (record { document = present old; next = old.next }) ops ≡ Err refused
@@ -130,7 +131,7 @@ nothing_redone old e = rw (e, after_step) (ap (λ (undone : List Entry). (reply.
 edit_case : (old : State) (group : Group) → StepCase old (command.Edit group)
 edit_case old group = of_result (edited_by_group (record { document = present old; next = old.next }) group.0) refl where
   of_result : (result : Result Edited (ℕ × Refusal)) → edited_by_group (record { document = present old; next = old.next }) group.0 ≡ result → StepCase old (command.Edit group)
-  of_result (Ok new) e = changes old (command.Edit group) (after_group old.past new.document (touched_by group.0) (list_any is_restyling group.0)) new.next
+  of_result (Ok new) e = changes old (command.Edit group) (after_group old.past new.document (touched_by (opened old) group.0) (list_any is_restyling group.0)) new.next
       (edited_by_group-next (record { document = present old; next = old.next }) group.0 new e) (edit_changes old group.0 new e)
   of_result (Err refused) e = leaves old (command.Edit group) (reply.Refused refused.0 refused.1) (edit_refused old group.0 refused e) refl
 

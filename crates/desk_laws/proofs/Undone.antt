@@ -5,16 +5,17 @@ use Rattle.std.specs.List.{list_any}
 use Rattle.std.proofs.lemmas.Bool.{ne_eqb}
 use Rattle.doc_model.specs.declared.edit.Group.{Group}
 use Rattle.doc_model.specs.declared.refusal.Refusal.{Refusal}
-use Rattle.doc_model.specs.Edit.{Edited, edited_by_group}
-use Rattle.doc_model.specs.Past.{Past, Entry, after_group}
-use Rattle.doc_model.specs.Spelling.{canonical}
+use Rattle.edit_model.specs.Edit.{Edited, edited_by_group}
+use Rattle.edit_model.specs.Past.{Past, Entry, after_group}
+use Rattle.spelling_model.specs.Spelling.{canonical}
 use Rattle.doc_model.specs.declared.document.Document.{Document}
 use Rattle.desk_model.specs.declared.command.Command.{Command}
 use Rattle.desk_model.specs.declared.command.Command.TheVariants as command
 use Rattle.desk_model.specs.declared.reply.Reply.{Reply}
 use Rattle.desk_model.specs.declared.reply.Reply.TheVariants as reply
-use Rattle.desk_model.specs.Idle.{restarted}
-use Rattle.desk_model.specs.Desk.{State, present, last_version, touched_by, is_restyling, changed, step}
+use Rattle.round_model.specs.Idle.{restarted}
+use Rattle.edit_model.specs.Edit.{touched_by, is_restyling}
+use Rattle.desk_model.specs.Desk.{State, present, last_version, opened, changed, step}
 use Rattle.desk_laws.specs.Steps.{reply_to, after, after_all, ShowSame}
 use Rattle.desk_laws.specs.Changes.{HasNoChange}
 use Rattle.desk_laws.proofs.Kept.{IsKept}
@@ -56,11 +57,11 @@ was_made old command version past next touched restyling e told = elim (either (
   same_version one other e = cc
 
 pub edit_made : (old : State) (group : Group) (version : ℕ) → reply_to old (command.Edit group) ≡ reply.Changed version
-    → (new : Edited) × WasMade old (command.Edit group) version (after_group old.past new.document (touched_by group.0) (list_any is_restyling group.0))
+    → (new : Edited) × WasMade old (command.Edit group) version (after_group old.past new.document (touched_by (opened old) group.0) (list_any is_restyling group.0))
 edit_made old group version told = of_result (edited_by_group (record { document = present old; next = old.next }) group.0) refl where
   of_result : (result : Result Edited (ℕ × Refusal)) → edited_by_group (record { document = present old; next = old.next }) group.0 ≡ result
-      → (new : Edited) × WasMade old (command.Edit group) version (after_group old.past new.document (touched_by group.0) (list_any is_restyling group.0))
-  of_result (Ok new) e = (new, was_made old (command.Edit group) version (after_group old.past new.document (touched_by group.0) (list_any is_restyling group.0)) new.next (touched_by group.0) (list_any is_restyling group.0) (edit_changes old group.0 new e) told)
+      → (new : Edited) × WasMade old (command.Edit group) version (after_group old.past new.document (touched_by (opened old) group.0) (list_any is_restyling group.0))
+  of_result (Ok new) e = (new, was_made old (command.Edit group) version (after_group old.past new.document (touched_by (opened old) group.0) (list_any is_restyling group.0)) new.next (touched_by (opened old) group.0) (list_any is_restyling group.0) (edit_changes old group.0 new e) told)
   of_result (Err refused) e = let clash : reply.Changed version ≡ reply.Refused refused.0 refused.1 = sym told ∙ ap (λ (t : Reply × State). t.0) (edit_refused old group.0 refused e) in absurd (cc)
 
 -- an undo where there is an earlier document, below the greatest version
@@ -75,7 +76,7 @@ undone_edit state group version between told below none =
     let made = edit_made state group version told in
     let kept : IsKept (after state (command.Edit group)) (after_all (after state (command.Edit group)) between) = IsKept-all (after state (command.Edit group)) between none in
     let back : present (after (after_all (after state (command.Edit group)) between) command.Undo) ≡ present state =
-    undo_present (after_all (after state (command.Edit group)) between) (record { document = state.past.present; touched = touched_by group.0; restyling = list_any is_restyling group.0 }) (take 255 state.past.earlier)
+    undo_present (after_all (after state (command.Edit group)) between) (record { document = state.past.present; touched = touched_by (opened state) group.0; restyling = list_any is_restyling group.0 }) (take 255 state.past.earlier)
     (ap (λ (past : Past). past.earlier) (kept.past ∙ made.1.0)) (λ last. below (sym (kept.version ∙ made.1.1) ∙ last)) in
     record { document = back; bytes = ap (λ (doc : Document). reply.Saved (canonical doc)) back }
 

@@ -5,19 +5,20 @@ use Rattle.std.specs.List.{AllByRecursion as Each, list_any}
 use Rattle.std.proofs.lemmas.List.{take-take}
 use Rattle.std.proofs.Common.{take-append-drop}
 use Rattle.doc_model.specs.declared.document.Document.{Document}
-use Rattle.doc_model.specs.Past.{Past, Entry}
-use Rattle.doc_model.specs.Spelling.{canonical}
+use Rattle.edit_model.specs.Past.{Past, Entry}
+use Rattle.spelling_model.specs.Spelling.{canonical}
 use Rattle.desk_model.specs.declared.command.Command.{Command}
 use Rattle.desk_model.specs.declared.command.Command.TheVariants as command
 use Rattle.desk_model.specs.declared.reply.Reply.{Reply}
 use Rattle.desk_model.specs.declared.reply.Reply.TheVariants as reply
-use Rattle.desk_model.specs.declared.turn.Taken.{Taken}
-use Rattle.desk_model.specs.declared.turn.Taken.TheVariants as took
-use Rattle.desk_model.specs.declared.turn.Published.{Published}
-use Rattle.desk_model.specs.declared.turn.Published.TheVariants.{Stale, Already, Entered}
-use Rattle.doc_model.specs.Edit.{live_paragraph}
-use Rattle.desk_model.specs.Idle.{take as take_idle, publish}
-use Rattle.desk_model.specs.Desk.{State, present, last_version, touched_by, is_restyling, taken_reply, published_reply}
+use Rattle.round_model.specs.declared.turn.Taken.{Taken}
+use Rattle.round_model.specs.declared.turn.Taken.TheVariants as took
+use Rattle.round_model.specs.declared.turn.Published.{Published}
+use Rattle.round_model.specs.declared.turn.Published.TheVariants.{Stale, Already, Entered}
+use Rattle.edit_model.specs.Edit.{live_paragraph}
+use Rattle.round_model.specs.Idle.{take as take_idle, publish}
+use Rattle.edit_model.specs.Edit.{touched_by, is_restyling}
+use Rattle.desk_model.specs.Desk.{State, present, last_version, opened, taken_reply, published_reply}
 use Rattle.desk_laws.specs.Steps.{reply_to, after, after_all, ShowSame}
 use Rattle.desk_laws.specs.Changes.{is_change, is_onward, change_count}
 use Rattle.desk_laws.proofs.Kept.{IsKept}
@@ -56,7 +57,7 @@ was_edit old (command.Edit group) onward told =
     let new = new_version old (command.Edit group) told in
     let made = edit_made old group (old.version + 1) new.0 in
     record {
-      entry = record { document = old.past.present; touched = touched_by group.0; restyling = list_any is_restyling group.0 };
+      entry = record { document = old.past.present; touched = touched_by (opened old) group.0; restyling = list_any is_restyling group.0 };
       earlier = ap (λ (past : Past). past.earlier) made.1.0;
       document = refl;
       version = new.1;

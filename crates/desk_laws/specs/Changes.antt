@@ -3,12 +3,13 @@ use Rattle.std.specs.Prelude.{◌≡◌, ℕ, ◌+◌, if◌then◌else◌, ◌=
 use Rattle.std.specs.List.{AllByRecursion as Each, list_any}
 use Rattle.doc_model.specs.declared.document.Document.{Document}
 use Rattle.doc_model.specs.Reading.{paragraphs, number_of}
-use Rattle.doc_model.specs.Past.{Entry}
+use Rattle.edit_model.specs.Past.{Entry}
 use Rattle.desk_model.specs.declared.command.Command.{Command}
 use Rattle.desk_model.specs.declared.command.Command.TheVariants.{Edit, Undo, Redo}
 use Rattle.desk_model.specs.declared.reply.Reply.{Reply}
 use Rattle.desk_model.specs.declared.reply.Reply.TheVariants.{Changed, Moved, Entered}
-use Rattle.desk_model.specs.Desk.{State, present, touched_by, is_restyling, steps}
+use Rattle.edit_model.specs.Edit.{touched_by, is_restyling}
+use Rattle.desk_model.specs.Desk.{State, present, opened, steps}
 use Rattle.desk_laws.specs.Steps.{reply_to, after}
 
 -- whether a reply tells of a change
@@ -50,7 +51,7 @@ restyled_next (entry ∷ entries) = entry.restyling
 
 -- the paragraphs that a command touches, if it is a change: those that its group touches, or the group did that is taken back or done again
 abbrev pub touched_at : State → Command → List ℕ
-touched_at state (Edit group) = touched_by group.0
+touched_at state (Edit group) = touched_by (opened state) group.0
 touched_at state Undo = touched_next state.past.earlier
 touched_at state Redo = touched_next state.past.undone
 touched_at state _ = []

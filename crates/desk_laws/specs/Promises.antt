@@ -7,8 +7,8 @@ use Rattle.line_model.specs.declared.key.Key.{Key}
 use Rattle.line_model.specs.declared.job.Stamp.{Stamp}
 use Rattle.desk_model.specs.declared.reply.Reply.{Reply}
 use Rattle.desk_model.specs.declared.reply.Reply.TheVariants.{Already, Entered}
-use Rattle.desk_model.specs.Rounds.{set_in, last_round}
-use Rattle.desk_model.specs.Idle.{Idle, Live, live_at, stamp_of, keeps}
+use Rattle.round_model.specs.Rounds.{set_in, last_round}
+use Rattle.round_model.specs.Idle.{Idle, Live, live_at, stamp_of, keeps}
 use Rattle.desk_model.specs.Desk.{State}
 
 -- no paragraph, and no style, changed at a version that is still to come

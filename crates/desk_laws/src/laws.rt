@@ -3,12 +3,12 @@ ghost use Rattle.std.specs.Prelude.{◌≡◌, ◌≢◌, ℕ, ◌+◌, ◌*◌,
 ghost use Rattle.std.specs.List.{AllByRecursion as Each};
 ghost use Rattle.doc_model.specs.declared.document.Document.{Document};
 ghost use Rattle.doc_model.specs.declared.edit.Group.{Group};
-ghost use Rattle.doc_model.specs.Past.{Entry};
+ghost use Rattle.edit_model.specs.Past.{Entry};
 ghost use Rattle.line_model.specs.declared.job.Job.{Job};
 ghost use Rattle.desk_model.specs.declared.command.Command.{Command};
-ghost use Rattle.desk_model.specs.Stops.{paragraph_count, stop_at};
-ghost use Rattle.desk_model.specs.Idle.{Idle, Live, live_at, keeps, is_form_stop_of};
-ghost use Rattle.desk_model.specs.Reached.{IsReached};
+ghost use Rattle.round_model.specs.Stops.{paragraph_count, stop_at};
+ghost use Rattle.round_model.specs.Idle.{Idle, Live, live_at, keeps, is_form_stop_of};
+ghost use Rattle.round_model.specs.Reached.{IsReached};
 ghost use Rattle.desk_model.specs.Desk.{State, present, start_at, last_version};
 ghost use Rattle.desk_model.specs.Runs.{turn, settle};
 ghost use Rattle.desk_laws.specs.Steps.{reply_to, after, after_all, ShowSame};

@@ -1,28 +1,27 @@
 -- The desk as a machine: a state, and for each command the reply and the state after it.
 use Rattle.std.specs.Prelude.{ℕ, ◌+◌, ◌-◌, ◌==◌, if◌then◌else◌, Bool, true, false, not, List, [], ◌∷◌, map, max, fold, length, drop, Option, Some, None, Result, Ok, Err}
-use Rattle.std.specs.List.{flat_map, list_any}
+use Rattle.std.specs.List.{list_any}
 use Rattle.std.specs.Option.{option_map_or}
 use Rattle.doc_model.specs.declared.edit.EditOp.{EditOp}
-use Rattle.doc_model.specs.declared.edit.EditOp.TheVariants.{DefineStyle, RemoveStyle, SetParent, SetProp}
 use Rattle.doc_model.specs.declared.document.Document.{Document}
 use Rattle.doc_model.specs.declared.page.Page.{Page}
 use Rattle.doc_model.specs.declared.paragraph.ParId.{ParId}
 use Rattle.doc_model.specs.declared.refusal.Refusal.{Refusal}
 use Rattle.doc_model.specs.Reading.{paragraphs, number_of}
-use Rattle.doc_model.specs.Edit.{Edited, edited_by_group, named_paragraphs, live_paragraph}
-use Rattle.doc_model.specs.Past.{Past, Entry, no_past, after_group, after_undo, after_redo}
-use Rattle.doc_model.specs.Spelling.{canonical}
+use Rattle.edit_model.specs.Edit.{Edited, edited_by_group, touched_by, is_restyling, live_paragraph}
+use Rattle.edit_model.specs.Past.{Past, Entry, no_past, after_group, after_undo, after_redo}
+use Rattle.spelling_model.specs.Spelling.{canonical}
 use Rattle.desk_model.specs.declared.command.Command.{Command}
 use Rattle.desk_model.specs.declared.command.Command.TheVariants as command
 use Rattle.desk_model.specs.declared.reply.Reply.{Reply}
 use Rattle.desk_model.specs.declared.reply.Reply.TheVariants as reply
-use Rattle.desk_model.specs.declared.turn.Taken.{Taken}
-use Rattle.desk_model.specs.declared.turn.Taken.TheVariants as took
-use Rattle.desk_model.specs.declared.turn.Published.{Published}
-use Rattle.desk_model.specs.declared.turn.Published.TheVariants.{Stale, Already, Entered}
-use Rattle.desk_model.specs.Keys.{text_of}
-use Rattle.desk_model.specs.Rounds.{last_round, pages_in}
-use Rattle.desk_model.specs.Idle.{Idle, idle_at, restarted, take, publish}
+use Rattle.round_model.specs.declared.turn.Taken.{Taken}
+use Rattle.round_model.specs.declared.turn.Taken.TheVariants as took
+use Rattle.round_model.specs.declared.turn.Published.{Published}
+use Rattle.round_model.specs.declared.turn.Published.TheVariants.{Stale, Already, Entered}
+use Rattle.line_model.specs.Keys.{text_of}
+use Rattle.round_model.specs.Rounds.{last_round, pages_in}
+use Rattle.round_model.specs.Idle.{Idle, idle_at, restarted, take, publish}
 
 -- the greatest version
 abbrev pub last_version : ℕ
@@ -43,17 +42,9 @@ present state = state.past.present
 abbrev pub start_at : Document → ℕ → State
 start_at doc version = record { past = no_past doc; next = fold max 0 (map number_of (paragraphs doc)) + 1; version = version; idle = idle_at doc version }
 
--- the paragraphs that a group touches
-abbrev pub touched_by : List EditOp → List ℕ
-touched_by ops = map (λ par. par.0) (flat_map named_paragraphs ops)
-
--- whether an operation changes styles
-abbrev pub is_restyling : EditOp → Bool
-is_restyling (DefineStyle style) = true
-is_restyling (RemoveStyle family name) = true
-is_restyling (SetParent family name parent) = true
-is_restyling (SetProp family name prop) = true
-is_restyling _ = false
+-- the present document as edits find it, with the least paragraph number that was never given
+abbrev pub opened : State → Edited
+opened state = record { document = present state; next = state.next }
 
 -- a change: the new past with the version one above, and all idle work to do again; or, at the greatest version, nothing
 abbrev pub changed : State → Past → ℕ → List ℕ → Bool → Reply × State
@@ -71,10 +62,10 @@ changed old past next touched restyling =
 
 -- the reply to a group of edits, and the state after it
 abbrev pub after_edit : State → List EditOp → Reply × State
-after_edit old ops = of_result (edited_by_group (record { document = present old; next = old.next }) ops) where
+after_edit old ops = of_result (edited_by_group (opened old) ops) where
   of_result : Result Edited (ℕ × Refusal) → Reply × State
   of_result (Ok new) =
-      changed old (after_group old.past new.document (touched_by ops) (list_any is_restyling ops)) new.next (touched_by ops) (list_any is_restyling ops)
+      changed old (after_group old.past new.document (touched_by (opened old) ops) (list_any is_restyling ops)) new.next (touched_by (opened old) ops) (list_any is_restyling ops)
   of_result (Err refused) = (reply.Refused refused.0 refused.1, old)
 
 -- the reply to an undo or a redo, and the state after it: it touches what the group touched that it takes back, or does again

@@ -1,8 +1,3 @@
-pub mod Keys
-pub mod Rounds
-pub mod Stops
-pub mod Idle
-pub mod Reached
 pub mod Desk
 pub mod Replies
 pub mod Script

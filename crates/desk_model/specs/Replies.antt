@@ -1,4 +1,4 @@
--- Replies as they are printed. The refusals without words here aren't given yet, and neither is the reply about a snapshot.
+-- Replies as they are printed.
 use Rattle.std.specs.Prelude.{ℕ, ◌==◌, nat_lt, if◌then◌else◌, false, List, [], ◌∷◌, ◌++◌, length, codes, decimal, Option, Some, None}
 use Rattle.std.specs.List.{flat_map}
 use Rattle.std.specs.Char.{encode_utf8}
@@ -7,6 +7,8 @@ use Rattle.std.specs.Fmt.{digits}
 use Rattle.doc_model.specs.declared.page.Page.{Page}
 use Rattle.doc_model.specs.declared.refusal.Limit.{Limit}
 use Rattle.doc_model.specs.declared.refusal.Limit.TheVariants.{Paragraphs, ItemsOfParagraph, Items, Sections, SectionDepth, Styles, ListStyles, Layouts, Masters, Declarations, NameLength, Operations, Identifiers}
+use Rattle.doc_model.specs.declared.refusal.NameSort.{NameSort}
+use Rattle.doc_model.specs.declared.refusal.NameSort.TheVariants as sort
 use Rattle.doc_model.specs.declared.refusal.Refusal.{Refusal}
 use Rattle.doc_model.specs.declared.refusal.Refusal.TheVariants.{PastEnd, BadRange, BadChar}
 use Rattle.doc_model.specs.declared.refusal.Refusal.TheVariants as refusal
@@ -31,15 +33,6 @@ limit_word NameLength = codes "name"
 limit_word Operations = codes "operations"
 limit_word Identifiers = codes "identifiers"
 
--- the words of a refusal
-abbrev pub refusal_words : Refusal → List ℕ
-refusal_words (refusal.NoPar par) = codes "no-par " ++ decimal par.0
-refusal_words (PastEnd par count) = codes "past-end " ++ (decimal par.0 ++ (codes " " ++ decimal count))
-refusal_words (BadRange from to) = codes "bad-range " ++ (decimal from ++ (codes " " ++ decimal to))
-refusal_words (BadChar offset) = codes "bad-char " ++ decimal offset
-refusal_words (refusal.Limit limit number) = codes "limit " ++ (limit_word limit ++ (codes " " ++ decimal number))
-refusal_words _ = []
-
 -- a character between quotes: quote, backslash, line feed and tab behind a backslash, and others below U+20 by their number
 abbrev pub quoted_char : ℕ → List ℕ
 quoted_char c =
@@ -49,6 +42,35 @@ quoted_char c =
 -- a text in quotes
 abbrev pub quoted : List ℕ → List ℕ
 quoted text = codes "\"" ++ (flat_map quoted_char text ++ codes "\"")
+
+-- the word of what a name names
+abbrev pub sort_word : NameSort → List ℕ
+sort_word sort.Style = codes "style"
+sort_word sort.ListStyle = codes "list-style"
+sort_word sort.Master = codes "master"
+sort_word sort.Bookmark = codes "bookmark"
+sort_word sort.Section = codes "section"
+sort_word sort.Sequence = codes "sequence"
+sort_word sort.Variable = codes "variable"
+sort_word sort.Reference = codes "reference"
+sort_word sort.Note = codes "note"
+sort_word sort.Property = codes "property"
+
+-- the words of a refusal
+abbrev pub refusal_words : Refusal → List ℕ
+refusal_words (refusal.NoPar par) = codes "no-par " ++ decimal par.0
+refusal_words (PastEnd par count) = codes "past-end " ++ (decimal par.0 ++ (codes " " ++ decimal count))
+refusal_words (BadRange from to) = codes "bad-range " ++ (decimal from ++ (codes " " ++ decimal to))
+refusal_words (BadChar offset) = codes "bad-char " ++ decimal offset
+refusal_words (refusal.Limit limit number) = codes "limit " ++ (limit_word limit ++ (codes " " ++ decimal number))
+refusal_words (refusal.NoName sort name) = codes "no-name " ++ (sort_word sort ++ (codes " " ++ quoted name))
+refusal_words (refusal.NameTaken sort name) = codes "name-taken " ++ (sort_word sort ++ (codes " " ++ quoted name))
+refusal_words (refusal.Protected name) = codes "protected " ++ quoted name
+refusal_words (refusal.StyleLoop name) = codes "style-loop " ++ quoted name
+refusal_words (refusal.InUse name par) = codes "in-use " ++ (quoted name ++ (codes " " ++ decimal par.0))
+refusal_words (refusal.NotTogether first second) = codes "not-together " ++ (decimal first.0 ++ (codes " " ++ decimal second.0))
+refusal_words (refusal.Level level) = codes "level " ++ decimal level
+refusal_words (refusal.LastPar par) = codes "last-par " ++ decimal par.0
 
 -- the two numbers of a stamp
 abbrev pub stamp_words : Stamp → List ℕ
@@ -88,7 +110,7 @@ reply_words (reply.NoPage count) = number_line (codes "no-page") count
 reply_words (reply.Text text) = codes "text " ++ (quoted text ++ codes "\n")
 reply_words (reply.NoPar par) = number_line (codes "no-par") par.0
 reply_words (reply.Saved bytes) = codes "saved " ++ (decimal (length bytes) ++ (codes "\n" ++ bytes))
-reply_words (reply.Snapped version) = []
+reply_words (reply.Snapped version) = number_line (codes "snapped") version
 reply_words (reply.Debt debt) = number_line (codes "debt") debt
 reply_words (reply.Version version) = number_line (codes "version") version
 

@@ -4,12 +4,10 @@
 mod command;
 mod reply;
 mod script;
-mod turn;
 
 pub use command::Command;
 pub use reply::Reply;
 pub use script::{Numbered, ScriptCommand};
-pub use turn::{Published, Taken};
 
 #[cfg(test)]
 mod tests;

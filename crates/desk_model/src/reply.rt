@@ -1,9 +1,11 @@
 //! What the desk answers.
 
 ghost use Rattle.std.specs.Prelude.{◌≡◌, IfOk};
+ghost use Rattle.desk_model.specs.Desk.{taken_reply, published_reply};
 
 use doc_model::{Blob, Page, ParId, Refusal, Txt};
 use line_model::{Job, Stamp};
+use round_model::{Published, Taken};
 use std::alloc::AllocError;
 
 /// The desk's answer to a command.
@@ -62,6 +64,28 @@ pub enum Reply {
 }
 
 impl Reply {
+    /// The reply that tells what an idle turn took. It takes no memory.
+    pub fn of_taken(taken: Taken) -> Reply
+        ensures { result ≡ taken_reply taken }
+    {
+        match taken {
+            Taken::Settled => Reply::Settled,
+            Taken::Moved(debt) => Reply::Moved(debt),
+            Taken::Job(job) => Reply::Job(job),
+        }
+    }
+
+    /// The reply that tells what became of the lines of a job. It takes no memory.
+    pub fn of_published(published: Published) -> Reply
+        ensures { result ≡ published_reply published }
+    {
+        match published {
+            Published::Stale { had, now } => Reply::Stale { had, now },
+            Published::Already => Reply::Already,
+            Published::Entered(debt) => Reply::Entered(debt),
+        }
+    }
+
     pub fn copy(&self) -> Result<Reply, AllocError>
         ensures { IfOk result (λ c. c ≡ self.now) }
     {

@@ -3,18 +3,19 @@
 use crate::*;
 use doc_model::Txt;
 use line_model::Stamp;
+use round_model::{Published, Taken};
 use std::test::Fail;
 
 #[test]
 fn idle_turns_are_told_by_replies(rt: HostRuntime) {
-    assert!(rt; Taken::Moved(19).into_reply() == Reply::Moved(19));
-    assert!(rt; Published::Already.into_reply() == Reply::Already);
+    assert!(rt; Reply::of_taken(Taken::Moved(19)) == Reply::Moved(19));
+    assert!(rt; Reply::of_published(Published::Already) == Reply::Already);
     let had = Stamp {
         revision: 1,
         epoch: 1,
     };
     let stale = Published::Stale { had, now: None };
-    assert!(rt; stale.into_reply() == Reply::Stale { had, now: None });
+    assert!(rt; Reply::of_published(stale) == Reply::Stale { had, now: None });
 }
 
 #[test]

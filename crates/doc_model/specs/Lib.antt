@@ -1,3 +1,5 @@
+pub mod Ranges
+pub mod Empty
 pub mod Reading
 pub mod Alike
 pub mod Parts
@@ -5,6 +7,3 @@ pub mod Limits
 pub mod Chars
 pub mod Valid
 pub mod Plain
-pub mod Edit
-pub mod Past
-pub mod Spelling

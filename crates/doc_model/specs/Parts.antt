@@ -1,5 +1,5 @@
 -- The parts of a document as whole lists: its items, fields, marks, spans, sections and names.
-use Rattle.std.specs.Prelude.{ℕ, ◌+◌, Bool, List, [], ◌∷◌, ◌++◌, map, max, fold, Option, Some, None, option_to_list}
+use Rattle.std.specs.Prelude.{ℕ, ◌+◌, Bool, true, false, List, [], ◌∷◌, ◌++◌, map, max, fold, length, Option, Some, None, option_to_list}
 use Rattle.std.specs.List.{flat_map}
 use Rattle.doc_model.specs.declared.block.Block.{Block, fold-Block}
 use Rattle.doc_model.specs.declared.block.Block.TheOpen.{Block-F, Section-F}
@@ -18,15 +18,23 @@ use Rattle.doc_model.specs.declared.field.Field.TheVariants as fields
 use Rattle.doc_model.specs.declared.style.Style.{Style}
 use Rattle.doc_model.specs.declared.page_layout.HeadPar.{HeadPar}
 use Rattle.doc_model.specs.declared.document.Document.{Document}
-use Rattle.doc_model.specs.Reading.{paragraphs, body_paragraphs, notes_of}
+use Rattle.doc_model.specs.Reading.{paragraphs, body_paragraphs, note_of, notes_of}
 
 -- the items of a paragraph
 abbrev pub items_of : Par → List Item
 items_of par = (out-Par par).items
 
--- the items of all paragraphs in reading order
-abbrev pub items : Document → List Item
-items doc = flat_map items_of (paragraphs doc)
+-- all items, paragraph by paragraph: those of a paragraph stand before those of its notes
+abbrev pub all_items : Document → List Item
+all_items doc = flat_map items_of (paragraphs doc)
+
+-- the items of a paragraph as they are read: behind a note those of its paragraphs
+abbrev pub items_read : Par → List Item
+items_read par = flat_map (λ item. item ∷ flat_map (λ note. flat_map items_of (out-Note note).pars) (note_of item)) (items_of par)
+
+-- all items in reading order
+abbrev pub items_in_reading_order : Document → List Item
+items_in_reading_order doc = flat_map items_read (body_paragraphs doc)
 
 -- the notes in reading order
 abbrev pub notes : Document → List Note
@@ -47,9 +55,9 @@ field_of item = of_what (what_of item) where
   of_what (What-F.Field field) = field ∷ []
   of_what _ = []
 
--- the fields in reading order
-abbrev pub fields_of : Document → List Field
-fields_of doc = flat_map field_of (items doc)
+-- all fields, paragraph by paragraph
+abbrev pub all_fields : Document → List Field
+all_fields doc = flat_map field_of (all_items doc)
 
 -- the mark that an item is, if it is one
 abbrev pub mark_of : Item → List Mark
@@ -57,6 +65,13 @@ mark_of item = of_what (what_of item) where
   of_what : What-F What Item Note Par → List Mark
   of_what (What-F.Mark mark) = mark ∷ []
   of_what _ = []
+
+-- whether an item is a mark
+abbrev pub is_mark : Item → Bool
+is_mark item = of_what (what_of item) where
+  of_what : What-F What Item Note Par → Bool
+  of_what (What-F.Mark mark) = true
+  of_what _ = false
 
 -- the name of a mark's bookmark
 abbrev pub mark_name : Mark → List ℕ
@@ -66,9 +81,9 @@ mark_name (End name) = name
 
 -- the names of the spans round the items
 abbrev pub span_names : Document → List (List ℕ)
-span_names doc = flat_map (λ item. (out-Item item).spans) (items doc)
+span_names doc = flat_map (λ item. (out-Item item).spans) (all_items doc)
 
--- a section without its blocks, and what kinds of section these are: None is a paragraph
+-- a section without its blocks, and how many they are
 pub record SectionHead : Type 0 where
   pub kind : Kind
   pub name : List ℕ
@@ -76,16 +91,16 @@ pub record SectionHead : Type 0 where
   pub protected : Bool
   pub hidden : Bool
   pub source : Option SectionSource
-  pub inside : List (Option Kind)
+  pub blocks : ℕ
 
--- the kind of a block's section and the sections of the block, outer ones first
-abbrev pub kind_and_sections : Block → Option Kind × List SectionHead
-kind_and_sections = fold-Block (Option Kind × List SectionHead) (Option Kind × List SectionHead) of_block of_section where
-  of_block : Block-F (Option Kind × List SectionHead) (Option Kind × List SectionHead) → Option Kind × List SectionHead
-  of_block (Block-F.Par par) = (None, [])
-  of_block (Block-F.Section section) = section
+-- the sections of a block, outer ones first
+abbrev pub block_sections : Block → List SectionHead
+block_sections = fold-Block (List SectionHead) (List SectionHead) of_block of_section where
+  of_block : Block-F (List SectionHead) (List SectionHead) → List SectionHead
+  of_block (Block-F.Par par) = []
+  of_block (Block-F.Section sections) = sections
 
-  of_section : Section-F (Option Kind × List SectionHead) (Option Kind × List SectionHead) → Option Kind × List SectionHead
+  of_section : Section-F (List SectionHead) (List SectionHead) → List SectionHead
   of_section section =
       let head : SectionHead = record {
         kind = section.kind;
@@ -94,17 +109,13 @@ kind_and_sections = fold-Block (Option Kind × List SectionHead) (Option Kind ×
         protected = section.protected;
         hidden = section.hidden;
         source = section.source;
-        inside = map (λ block. block.0) section.blocks;
+        blocks = length section.blocks;
       }
-      in (Some section.kind, head ∷ flat_map (λ block. block.1) section.blocks)
-
--- the kinds of the blocks of the body: None is a paragraph
-abbrev pub body_kinds : Document → List (Option Kind)
-body_kinds doc = map (λ block. (kind_and_sections block).0) doc.body
+      in head ∷ flat_map (λ sections. sections) section.blocks
 
 -- the sections in reading order
 abbrev pub sections : Document → List SectionHead
-sections doc = flat_map (λ block. (kind_and_sections block).1) doc.body
+sections doc = flat_map block_sections doc.body
 
 -- how many sections stand within each other in a block
 abbrev pub depth_of : Block → ℕ
@@ -160,6 +171,6 @@ names doc = flat_map names_of_style doc.styles
     ++ flat_map names_of_section (sections doc)
     ++ flat_map names_of_paragraph (paragraphs doc)
     ++ span_names doc
-    ++ flat_map names_of_field (fields_of doc)
-    ++ map mark_name (flat_map mark_of (items doc))
+    ++ flat_map names_of_field (all_fields doc)
+    ++ map mark_name (flat_map mark_of (all_items doc))
     ++ map (λ note. (out-Note note).id) (notes doc)

@@ -1,5 +1,5 @@
 -- Plain documents: paragraphs of printable ASCII characters in the body, and nothing else.
-use Rattle.std.specs.Prelude.{◌≡◌, ℕ, ◌+◌, false, List, [], ◌∷◌, map, None}
+use Rattle.std.specs.Prelude.{◌≡◌, ℕ, ◌+◌, List, [], ◌∷◌, map, None}
 use Rattle.std.specs.List.{AllByRecursion as Each}
 use Rattle.doc_model.specs.declared.block.Block.{Block, roll-Block}
 use Rattle.doc_model.specs.declared.block.Block.TheOpen.{Block-F}
@@ -7,10 +7,10 @@ use Rattle.doc_model.specs.declared.paragraph.Par.{Par, roll-Par}
 use Rattle.doc_model.specs.declared.paragraph.Item.{Item, roll-Item}
 use Rattle.doc_model.specs.declared.paragraph.What.{roll-What}
 use Rattle.doc_model.specs.declared.paragraph.What.TheOpen.{What-F}
-use Rattle.doc_model.specs.declared.page_layout.NoteStart.TheVariants as counting
 use Rattle.doc_model.specs.declared.document.Document.{Document}
+use Rattle.doc_model.specs.Empty.{only_body}
 use Rattle.doc_model.specs.Chars.{IsPlainChar}
-use Rattle.doc_model.specs.Valid.{IsValid, unstated}
+use Rattle.doc_model.specs.Valid.{IsValid}
 
 -- a character without spans
 abbrev pub plain_item : ℕ → Item
@@ -27,7 +27,7 @@ plain_blocks number (text ∷ texts) = roll-Block (Block-F.Par (plain_paragraph 
 
 -- the document of paragraphs of these texts, numbered from 1, in which all else is empty or unstated
 unfoldable pub plain_document : List (List ℕ) → Document
-plain_document texts = record { global = false; defaults = unstated; styles = []; lists = []; outline = record { name = []; levels = [] }; layouts = []; masters = []; variables = []; sequences = []; counting = counting.Document; body = plain_blocks 1 texts }
+plain_document texts = only_body (plain_blocks 1 texts)
 
 -- a valid document that has paragraphs of these texts, of U+20 to U+7E, and nothing else
 pub record IsPlainOf (texts : List (List ℕ)) (doc : Document) : Type 0 where

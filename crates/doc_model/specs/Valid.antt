@@ -1,9 +1,8 @@
 -- What it means that a document is valid. Each fact is about whole lists of its parts.
-use Rattle.std.specs.Prelude.{◌≡◌, ◌≢◌, ℕ, ℤ, pos, negsuc, ◌≤ℤ◌, ◌<◌, ◌≤◌, ◌⊎◌, ◌++◌, List, [], ◌∷◌, map, length, filter, Option, Some, None, option_to_list, AllPairs, Any, false}
+use Rattle.std.specs.Prelude.{◌≡◌, ◌≢◌, ℕ, ◌<◌, ◌≤◌, ◌⊎◌, ◌++◌, List, [], ◌∷◌, map, length, filter, Option, Some, None, option_to_list, AllPairs, Any, false}
 use Rattle.std.specs.List.{AllByRecursion as Each, flat_map}
 use Rattle.std.specs.Str.{bytes_eq}
-use Rattle.doc_model.specs.declared.block.Kind.{Kind}
-use Rattle.doc_model.specs.declared.block.Kind.TheVariants.{Plain, Index, Table, Row, Cell}
+use Rattle.doc_model.specs.declared.block.Kind.TheVariants.{Plain}
 use Rattle.doc_model.specs.declared.paragraph.Par.{Par, out-Par}
 use Rattle.doc_model.specs.declared.paragraph.Item.{Item, out-Item}
 use Rattle.doc_model.specs.declared.paragraph.What.{What, out-What}
@@ -18,15 +17,15 @@ use Rattle.doc_model.specs.declared.style.Family.{Family}
 use Rattle.doc_model.specs.declared.style.Family.TheVariants as family
 use Rattle.doc_model.specs.declared.style.Style.{Style}
 use Rattle.doc_model.specs.declared.style.Props.{Props}
-use Rattle.doc_model.specs.declared.style.TabStop.{TabStop}
 use Rattle.doc_model.specs.declared.list_style.ListLevel.{ListLevel}
 use Rattle.doc_model.specs.declared.list_style.LevelWhat.{LevelWhat}
 use Rattle.doc_model.specs.declared.list_style.LevelWhat.TheVariants.{Bullet, Number}
-use Rattle.doc_model.specs.declared.page_layout.PageLayout.{PageLayout}
+use Rattle.doc_model.specs.declared.page_layout.NoteStart.TheVariants as counting
 use Rattle.doc_model.specs.declared.document.Document.{Document}
+use Rattle.doc_model.specs.Empty.{unstated}
 use Rattle.doc_model.specs.Chars.{IsLegal, IsLegalText}
 use Rattle.doc_model.specs.Reading.{paragraphs, number_of}
-use Rattle.doc_model.specs.Parts.{items, notes, texts, what_of, fields_of, mark_of, mark_name, span_names, SectionHead, body_kinds, sections, head_paragraphs, names}
+use Rattle.doc_model.specs.Parts.{all_items, all_fields, notes, texts, what_of, mark_of, mark_name, span_names, SectionHead, sections, head_paragraphs, names}
 use Rattle.doc_model.specs.Limits.{IsWithinLimits}
 
 -- a name is none, or one of those given
@@ -58,46 +57,31 @@ Leads style (parent ∷ chain) ancestor = IsParentOf parent style × Leads paren
 abbrev pub HasNoStyleLoop : Document → Type 0
 HasNoStyleLoop doc = (style : Style) (chain : List Style) → Any (λ other. other ≡ style) doc.styles → Each (λ parent. Any (λ other. other ≡ parent) doc.styles) chain → Leads style chain style → ⊥
 
--- nothing is stated
-unfoldable pub unstated : Props
-unstated = record { margin_left = None; margin_right = None; margin_top = None; margin_bottom = None; indent = None; align = None; break_before = None; break_after = None; keep_next = None; keep_together = None; widows = None; orphans = None; page_number = None; display = None; tabs = None }
-
 -- the properties that a family has: text has display alone, a section none
 abbrev pub AreOf : Family → Props → Type 0
 AreOf family.Paragraph props = Unit {0}
 AreOf family.Text props = props ≡ record unstated { display = props.display }
 AreOf family.Section props = props ≡ unstated
 
--- a length has a size of at most 100000000 units
-abbrev pub IsLength : ℤ → Type 0
-IsLength length = (negsuc 99999999 ≤ℤ length) × (length ≤ℤ pos 100000000)
-
--- the lengths that properties state
-abbrev pub lengths_of : Props → List ℤ
-lengths_of props = option_to_list props.margin_left ++ option_to_list props.margin_right ++ option_to_list props.margin_top ++ option_to_list props.margin_bottom ++ option_to_list props.indent ++ of_tabs props.tabs where
-  of_tabs : Option (List TabStop) → List ℤ
-  of_tabs None = []
-  of_tabs (Some stops) = map (λ stop. stop.position) stops
-
--- the lengths that a layout states
-abbrev pub lengths_of_layout : PageLayout → List ℤ
-lengths_of_layout layout = option_to_list layout.width ++ option_to_list layout.height ++ option_to_list layout.left ++ option_to_list layout.right ++ option_to_list layout.top ++ option_to_list layout.bottom
+-- tab stops are not read or written yet, so none are stated
+abbrev pub StatesNoTabs : Props → Type 0
+StatesNoTabs props = props.tabs ≡ None
 
 -- a style states what its family has, and its names are there
 pub record IsStyle (doc : Document) (style : Style) : Type 0 where
   pub properties : AreOf style.family style.props
-  pub lengths : Each IsLength (lengths_of style.props)
+  pub tabs : StatesNoTabs style.props
   pub parent : IsNoneOrStyle doc style.family style.parent
   pub next : IsNoneOrStyle doc style.family style.next
   pub master : Each (IsNoneOrGiven (map (λ master. master.name) doc.masters)) (option_to_list style.master)
   pub outline : style.outline ≤ 10
 
--- a level of a list style has a number from 1 to 10, legal texts and numbers in their ranges
+-- a level of a list style is labelled by legal characters
 abbrev pub IsLevel : ListLevel → Type 0
-IsLevel level = (1 ≤ level.level) × (level.level ≤ 10) × of_what level.what where
+IsLevel level = of_what level.what where
   of_what : LevelWhat → Type 0
   of_what (Bullet c) = IsLegal c
-  of_what (Number format prefix suffix start display) = Each IsLegal prefix × Each IsLegal suffix × (start ≤ 65535) × (1 ≤ display) × (display ≤ 10)
+  of_what (Number format prefix suffix start display) = Each IsLegal prefix × Each IsLegal suffix
 
 -- the levels are valid and ascend
 abbrev pub AreLevels : List ListLevel → Type 0
@@ -133,7 +117,6 @@ IsField doc (fields.Sequence name refname format) = Any (λ other. other ≡ nam
 IsField doc (fields.VarSet name value) = Any (λ other. other ≡ name) doc.variables × Each IsLegalText value
 IsField doc (fields.VarGet name) = Any (λ other. other ≡ name) doc.variables
 IsField doc (fields.Chapter display level) = (1 ≤ level) × (level ≤ 10)
-IsField doc (fields.PageNumber select adjust format) = (negsuc 9998 ≤ℤ adjust) × (adjust ≤ℤ pos 9999)
 IsField doc _ = Unit {0}
 
 -- the reference name of a sequence field
@@ -172,36 +155,14 @@ AreMarksOf name marks = (marks ≡ Point name ∷ []) ⊎ (marks ≡ Start name 
 
 -- the marks of a bookmark stand in one text, and are a point, or a start and an end
 abbrev pub IsBookmark : Document → List ℕ → Type 0
-IsBookmark doc name = (name ≢ []) × AreMarksOf name (marks_named name (items doc)) × Any (λ text. AreMarksOf name (marks_named name text)) (texts doc)
+IsBookmark doc name = (name ≢ []) × AreMarksOf name (marks_named name (all_items doc)) × Any (λ text. AreMarksOf name (marks_named name text)) (texts doc)
 
--- a kind of section that isn't a row or a cell, or a paragraph
-abbrev pub StandsAnywhere : Option Kind → Type 0
-StandsAnywhere (Some Row) = ⊥
-StandsAnywhere (Some (Cell span)) = ⊥
-StandsAnywhere _ = Unit {0}
-
--- what stands in a section of this kind: rows in a table, cells in a row, and anything else elsewhere
-abbrev pub StandsIn : Kind → Option Kind → Type 0
-StandsIn Table (Some Row) = Unit {0}
-StandsIn Table _ = ⊥
-StandsIn Row (Some (Cell span)) = Unit {0}
-StandsIn Row _ = ⊥
-StandsIn _ inside = StandsAnywhere inside
-
--- what a section of this kind states beside its blocks
-abbrev pub IsSectionOf : Document → SectionHead → Kind → Type 0
-IsSectionOf doc section Plain = section.name ≢ []
-IsSectionOf doc section (Index level) = (section.name ≢ []) × (1 ≤ level) × (level ≤ 10) × (section.source ≡ None)
-IsSectionOf doc section Table = (section.name ≢ []) × (section.style ≡ []) × (section.protected ≡ false) × (section.hidden ≡ false) × (section.source ≡ None)
-IsSectionOf doc section Row = (section.name ≡ []) × (section.style ≡ []) × (section.protected ≡ false) × (section.hidden ≡ false) × (section.source ≡ None)
-IsSectionOf doc section (Cell span) = (section.name ≡ []) × (section.style ≡ []) × (section.protected ≡ false) × (section.hidden ≡ false) × (section.source ≡ None) × (1 ≤ span) × (span ≤ 1024)
-
--- a section has a block, its style is there, and what stands in it may stand there
+-- a section has a name and a block, and its style is there. Indexes and tables are not read or written yet, so each is a plain one
 pub record IsSection (doc : Document) (section : SectionHead) : Type 0 where
-  pub blocks : section.inside ≢ []
-  pub inside : Each (StandsIn section.kind) section.inside
+  pub name : section.name ≢ []
+  pub blocks : section.blocks ≢ 0
   pub style : IsNoneOrStyle doc family.Section section.style
-  pub kind : IsSectionOf doc section section.kind
+  pub kind : section.kind ≡ Plain
 
 -- a style that isn't automatic stands before those that are
 abbrev pub AreInOrder : List Style → Type 0
@@ -209,19 +170,19 @@ AreInOrder styles = AllPairs (λ left right. right.auto ≡ false → left.auto 
 
 -- the document is valid
 pub record IsValid (doc : Document) : Type 0 where
-  -- what is there
+  -- what is there. Footnotes are counted through the document, since no other counting is read or written yet
+  pub counting : doc.counting ≡ counting.Document
   pub body : doc.body ≢ []
-  pub body_blocks : Each StandsAnywhere (body_kinds doc)
   pub numbers : AllPairs (λ left right. left ≢ right) (map number_of (paragraphs doc))
   pub numbers_given : Each (λ par. 1 ≤ number_of par) (paragraphs doc)
   pub each_paragraph : Each (IsParagraph doc) (paragraphs doc)
-  pub each_item : Each IsItem (items doc)
+  pub each_item : Each IsItem (all_items doc)
   pub each_note : Each IsNote (notes doc)
-  pub each_field : Each (IsField doc) (fields_of doc)
-  pub bookmarks : Each (λ mark. IsBookmark doc (mark_name mark)) (flat_map mark_of (items doc))
+  pub each_field : Each (IsField doc) (all_fields doc)
+  pub bookmarks : Each (λ mark. IsBookmark doc (mark_name mark)) (flat_map mark_of (all_items doc))
   pub each_section : Each (IsSection doc) (sections doc)
   -- styles, lists and pages
-  pub default_lengths : Each IsLength (lengths_of doc.defaults)
+  pub default_tabs : StatesNoTabs doc.defaults
   pub styles : Each (IsStyle doc) doc.styles
   pub styles_in_order : AreInOrder doc.styles
   pub style_names : AllPairs (λ left right. left.family ≡ right.family → left.name ≢ right.name) doc.styles
@@ -229,7 +190,6 @@ pub record IsValid (doc : Document) : Type 0 where
   pub style_loops : HasNoStyleLoop doc
   pub lists : Each (λ list. AreLevels list.levels) doc.lists
   pub outline : (doc.outline.name ≡ []) × AreLevels doc.outline.levels × Each IsNumberLevel doc.outline.levels
-  pub layouts : Each (λ layout. Each IsLength (lengths_of_layout layout)) doc.layouts
   pub layout_names_used : Each (λ master. IsNoneOrGiven (map (λ layout. layout.name) doc.layouts) master.layout) doc.masters
   pub next_masters : Each (λ master. IsNoneOrGiven (map (λ other. other.name) doc.masters) master.next) doc.masters
   pub headers : Each (λ master. (length master.header ≤ 16) × (length master.footer ≤ 16)) doc.masters
@@ -242,7 +202,7 @@ pub record IsValid (doc : Document) : Type 0 where
   pub sequences : AreNamesGiven doc.sequences
   pub section_names : AreNamesOrNone (map (λ section. section.name) (sections doc))
   pub note_ids : AreNamesOrNone (map (λ note. (out-Note note).id) (notes doc))
-  pub reference_names : AreNamesOrNone (flat_map refname_of (fields_of doc))
+  pub reference_names : AreNamesOrNone (flat_map refname_of (all_fields doc))
   pub span_styles : Each (λ name. (name ≢ []) × IsNoneOrStyle doc family.Text name) (span_names doc)
   pub legal_names : Each (λ name. Each IsLegal name) (names doc)
   pub limits : IsWithinLimits doc

@@ -1,6 +1,7 @@
 //! The whole document.
 
 ghost use Rattle.std.specs.Prelude.{◌≡◌, IfOk};
+ghost use Rattle.doc_model.specs.Empty.{only_body};
 
 use crate::block::Block;
 use crate::list::List;
@@ -8,7 +9,7 @@ use crate::list_style::ListStyle;
 use crate::page_layout::{Master, NoteStart, PageLayout};
 use crate::style::{Props, Style};
 use crate::texts::Name;
-use std::alloc::AllocError;
+use std::alloc::{AllocError, Global};
 
 /// A text document: what a flat OpenDocument file says.
 #[derive(Debug, Drop)]
@@ -38,6 +39,25 @@ pub struct Document {
 }
 
 impl Document {
+    /// The document of these blocks, in which all else is empty or unstated. It takes no memory.
+    pub fn from_body(alloc: Global, body: List<Block>) -> Document
+        ensures { result ≡ only_body body }
+    {
+        Document {
+            global: false,
+            defaults: Props::unstated(),
+            styles: List::new(alloc),
+            lists: List::new(alloc),
+            outline: ListStyle::no_outline(alloc),
+            layouts: List::new(alloc),
+            masters: List::new(alloc),
+            variables: List::new(alloc),
+            sequences: List::new(alloc),
+            counting: NoteStart::Document,
+            body,
+        }
+    }
+
     pub fn copy(&self) -> Result<Document, AllocError>
         ensures { IfOk result (λ c. c ≡ self.now) }
     {

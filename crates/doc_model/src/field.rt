@@ -2,6 +2,7 @@
 
 ghost use Rattle.std.specs.Prelude.{◌≡◌, IfOk};
 
+use crate::ranges::PageAdjust;
 use crate::texts::{Name, Txt};
 use std::alloc::AllocError;
 
@@ -124,8 +125,8 @@ pub enum Field {
     PageNumber {
         /// 'text:select-page'.
         select: Select,
-        /// 'text:page-adjust': pages added to the index of the page, -9999 to 9999.
-        adjust: i32,
+        /// 'text:page-adjust': pages added to the index of the page.
+        adjust: PageAdjust,
         /// 'style:num-format'.
         format: Format,
     },

@@ -11,11 +11,12 @@ mod list_style;
 mod page;
 mod page_layout;
 mod paragraph;
+mod ranges;
 mod refusal;
 mod report;
 mod spans;
-pub mod spelling;
 mod style;
+mod tabs;
 mod texts;
 
 pub use block::{Block, Kind, Section, SectionSource};
@@ -31,10 +32,12 @@ pub use list_style::{LevelWhat, ListLevel, ListStyle};
 pub use page::{Label, Page, PageEntry, PageTable, Pages, ParPage};
 pub use page_layout::{HeadPar, Master, NoteStart, PageLayout};
 pub use paragraph::{Item, ListPos, Mark, Note, Par, ParHead, ParId, What};
+pub use ranges::{Distance, Length, LevelNumber, PageAdjust};
 pub use refusal::{Limit, NameSort, Refusal};
 pub use report::Report;
 pub use spans::Spans;
-pub use style::{Align, BreakAt, Family, PageStart, Prop, Props, Style, TabStop};
+pub use style::{Align, BreakAt, Family, PageStart, Prop, Props, Style};
+pub use tabs::{TabStop, TabStops};
 pub use texts::{Blob, Name, Txt};
 
 #[cfg(test)]

@@ -1,11 +1,12 @@
 //! List styles: how the levels of a list, or of the outline, are labelled.
 
-ghost use Rattle.std.specs.Prelude.{◌≡◌, IfOk};
+ghost use Rattle.std.specs.Prelude.{◌≡◌, [], IfOk};
 
 use crate::field::Format;
 use crate::list::List;
+use crate::ranges::LevelNumber;
 use crate::texts::{Name, Txt};
-use std::alloc::AllocError;
+use std::alloc::{AllocError, Global};
 
 /// A list style ('text:list-style'), or the outline style ('text:outline-style').
 #[derive(Debug, Drop, PartialEq, Eq)]
@@ -19,8 +20,8 @@ pub struct ListStyle {
 /// One level of a list style.
 #[derive(Debug, Drop, PartialEq, Eq)]
 pub struct ListLevel {
-    /// 'text:level', 1 to 10.
-    pub level: u8,
+    /// 'text:level'.
+    pub level: LevelNumber,
     /// How items of this level are labelled.
     pub what: LevelWhat,
 }
@@ -38,14 +39,25 @@ pub enum LevelWhat {
         prefix: Txt,
         /// 'style:num-suffix'.
         suffix: Txt,
-        /// The number of the first item ('text:start-value'), 0 to 65535.
-        start: u32,
-        /// How many levels are shown, up to this one ('text:display-levels'), 1 to 10.
-        display: u8,
+        /// The number of the first item ('text:start-value').
+        start: u16,
+        /// How many levels are shown, up to this one ('text:display-levels').
+        display: LevelNumber,
     },
 }
 
 impl ListStyle {
+    /// The outline style without a level. It takes no memory.
+    pub fn no_outline(alloc: Global) -> ListStyle
+        ensures name { result.name ≡ [] }
+        ensures levels { result.levels ≡ [] }
+    {
+        ListStyle {
+            name: Name::none(alloc),
+            levels: List::new(alloc),
+        }
+    }
+
     pub fn copy(&self) -> Result<ListStyle, AllocError>
         ensures { IfOk result (λ c. c ≡ self.now) }
     {

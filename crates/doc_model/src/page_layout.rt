@@ -1,10 +1,11 @@
-//! Page layouts and master pages. Lengths are in units, 914400 to an inch.
+//! Page layouts and master pages.
 
 ghost use Rattle.std.specs.Prelude.{◌≡◌, IfOk};
 
 use crate::copies::copy_what;
 use crate::list::List;
 use crate::paragraph::What;
+use crate::ranges::Length;
 use crate::texts::Name;
 use std::alloc::AllocError;
 
@@ -14,17 +15,17 @@ pub struct PageLayout {
     /// 'style:name'.
     pub name: Name,
     /// 'fo:page-width'.
-    pub width: Option<i32>,
+    pub width: Option<Length>,
     /// 'fo:page-height'.
-    pub height: Option<i32>,
+    pub height: Option<Length>,
     /// 'fo:margin-left'.
-    pub left: Option<i32>,
+    pub left: Option<Length>,
     /// 'fo:margin-right'.
-    pub right: Option<i32>,
+    pub right: Option<Length>,
     /// 'fo:margin-top'.
-    pub top: Option<i32>,
+    pub top: Option<Length>,
     /// 'fo:margin-bottom'.
-    pub bottom: Option<i32>,
+    pub bottom: Option<Length>,
 }
 
 /// A master page ('style:master-page').

@@ -1,9 +1,11 @@
-//! Styles and their properties. Lengths are in units, 914400 to an inch.
+//! Styles and their properties.
 
-ghost use Rattle.std.specs.Prelude.{◌≡◌, IfOk, IsTrue, ◌↔◌};
+ghost use Rattle.std.specs.Prelude.{◌≡◌, IfOk};
+ghost use Rattle.doc_model.specs.Empty.{unstated};
 
 use crate::copies::copy_option;
-use crate::list::List;
+use crate::ranges::Length;
+use crate::tabs::TabStops;
 use crate::texts::Name;
 use std::alloc::AllocError;
 
@@ -43,15 +45,15 @@ pub struct Style {
 #[derive(Debug, Drop, PartialEq, Eq)]
 pub struct Props {
     /// 'fo:margin-left'.
-    pub margin_left: Option<i32>,
+    pub margin_left: Option<Length>,
     /// 'fo:margin-right'.
-    pub margin_right: Option<i32>,
+    pub margin_right: Option<Length>,
     /// 'fo:margin-top'.
-    pub margin_top: Option<i32>,
+    pub margin_top: Option<Length>,
     /// 'fo:margin-bottom'.
-    pub margin_bottom: Option<i32>,
+    pub margin_bottom: Option<Length>,
     /// 'fo:text-indent', of the first line.
-    pub indent: Option<i32>,
+    pub indent: Option<Length>,
     /// 'fo:text-align'.
     pub align: Option<Align>,
     /// 'fo:break-before'.
@@ -71,22 +73,22 @@ pub struct Props {
     /// 'text:display': `false` is none.
     pub display: Option<bool>,
     /// 'style:tab-stops'.
-    pub tabs: Option<List<TabStop>>,
+    pub tabs: Option<TabStops>,
 }
 
 /// One property, as it is to be stated; `None` makes it unstated.
 #[derive(Debug, Drop, PartialEq, Eq)]
 pub enum Prop {
     /// 'fo:margin-left'.
-    MarginLeft(Option<i32>),
+    MarginLeft(Option<Length>),
     /// 'fo:margin-right'.
-    MarginRight(Option<i32>),
+    MarginRight(Option<Length>),
     /// 'fo:margin-top'.
-    MarginTop(Option<i32>),
+    MarginTop(Option<Length>),
     /// 'fo:margin-bottom'.
-    MarginBottom(Option<i32>),
+    MarginBottom(Option<Length>),
     /// 'fo:text-indent'.
-    Indent(Option<i32>),
+    Indent(Option<Length>),
     /// 'fo:text-align'.
     Align(Option<Align>),
     /// 'fo:break-before'.
@@ -106,7 +108,7 @@ pub enum Prop {
     /// 'text:display'.
     Display(Option<bool>),
     /// 'style:tab-stops'.
-    Tabs(Option<List<TabStop>>),
+    Tabs(Option<TabStops>),
 }
 
 /// Where the lines of a paragraph stand ('fo:text-align').
@@ -140,15 +142,6 @@ pub enum PageStart {
     At(u16),
 }
 
-/// A place in a line to which a tab leads ('style:tab-stop').
-#[derive(Debug, Clone, Copy, PartialEq, Eq)]
-pub struct TabStop {
-    /// The distance from the line's left end ('style:position'), in units.
-    pub position: i32,
-    /// Whether the text behind the tab ends there ('style:type' right); else it begins there.
-    pub right: bool,
-}
-
 impl Style {
     pub fn copy(&self) -> Result<Style, AllocError>
         ensures { IfOk result (λ c. c ≡ self.now) }
@@ -180,10 +173,34 @@ impl Clone for Style {
 }
 
 impl Props {
+    /// Those of which none is stated. It takes no memory.
+    #[tactic(auto, unfolding(crate::specs::Empty::unstated))]
+    pub fn unstated() -> Props
+        ensures { result ≡ unstated }
+    {
+        Props {
+            margin_left: None,
+            margin_right: None,
+            margin_top: None,
+            margin_bottom: None,
+            indent: None,
+            align: None,
+            break_before: None,
+            break_after: None,
+            keep_next: None,
+            keep_together: None,
+            widows: None,
+            orphans: None,
+            page_number: None,
+            display: None,
+            tabs: None,
+        }
+    }
+
     pub fn copy(&self) -> Result<Props, AllocError>
         ensures { IfOk result (λ c. c ≡ self.now) }
     {
-        let tabs = copy_tabs(&self.tabs)?;
+        let tabs = copy_option(&self.tabs)?;
         Ok(Props {
             margin_left: self.margin_left,
             margin_right: self.margin_right,
@@ -223,27 +240,7 @@ impl Prop {
             Prop::Orphans(lines) => Ok(Prop::Orphans(*lines)),
             Prop::PageNumber(start) => Ok(Prop::PageNumber(*start)),
             Prop::Display(shown) => Ok(Prop::Display(*shown)),
-            Prop::Tabs(tabs) => Ok(Prop::Tabs(copy_tabs(tabs)?)),
+            Prop::Tabs(tabs) => Ok(Prop::Tabs(copy_option(tabs)?)),
         }
-    }
-}
-
-fn copy_tabs(tabs: &Option<List<TabStop>>) -> Result<Option<List<TabStop>>, AllocError>
-    ensures { IfOk result (λ c. c ≡ tabs.now) }
-{
-    match tabs {
-        Some(tabs) => Ok(Some(List::from_slice(tabs.allocator(), tabs.get())?)),
-        None => Ok(None),
-    }
-}
-
-impl TabStop {
-    pub fn is_same(&self, other: &TabStop) -> bool
-        ensures { IsTrue result ↔ (self.now ≡ other.now) }
-    {
-        if self.position != other.position {
-            return false;
-        }
-        self.right == other.right
     }
 }

@@ -16,7 +16,7 @@ use Rattle.doc_model.specs.declared.block.Block.TheVariants as block
 use Rattle.doc_model.specs.declared.block.Section.{Section}
 use Rattle.doc_model.specs.declared.document.Document.{Document}
 use Rattle.doc_model.specs.declared.refusal.Limit.TheVariants as limit
-use Rattle.doc_model.specs.Edit.{live_paragraph, item_count, with_items}
+use Rattle.edit_model.specs.Edit.{live_paragraph, item_count, with_items}
 use Rattle.doc_model.specs.Limits.{measure}
 use Rattle.doc_model.specs.Plain.{IsPlain, plain_document, plain_blocks, plain_paragraph, plain_item}
 use Rattle.plain_doc.specs.PlainParts.{text_numbered, with_changed}

@@ -13,7 +13,7 @@ use Rattle.doc_model.specs.declared.refusal.Limit.TheVariants as limit
 use Rattle.doc_model.specs.declared.refusal.Refusal.{Refusal}
 use Rattle.doc_model.specs.declared.refusal.Refusal.TheVariants as refusal
 use Rattle.doc_model.specs.Chars.{IsPlainChar}
-use Rattle.doc_model.specs.Edit.{edited, first_refusal, live_paragraph, item_count, with_items}
+use Rattle.edit_model.specs.Edit.{edited, first_refusal, live_paragraph, item_count, with_items}
 use Rattle.doc_model.specs.Limits.{measure}
 use Rattle.doc_model.specs.Parts.{items_of}
 use Rattle.doc_model.specs.Plain.{IsPlain, plain_document, plain_item, plain_paragraph}

@@ -16,7 +16,7 @@ use Rattle.doc_model.specs.declared.refusal.Refusal.{Refusal}
 use Rattle.doc_model.specs.declared.refusal.Refusal.TheVariants.{NoPar, PastEnd, BadRange, BadChar}
 use Rattle.doc_model.specs.declared.refusal.Refusal.TheVariants as refusal
 use Rattle.doc_model.specs.Chars.{IsPlainChar, can_be_typed, first_untypable}
-use Rattle.doc_model.specs.Edit.{Edited, edited, first_refusal, first_refusal_of, live_paragraph, item_count, with_items, with_text, without_range}
+use Rattle.edit_model.specs.Edit.{Edited, edited, first_refusal, first_refusal_of, live_paragraph, item_count, with_items, with_text, without_range}
 use Rattle.doc_model.specs.Limits.{first_passed, limit_number}
 use Rattle.doc_model.specs.Parts.{items_of}
 use Rattle.doc_model.specs.Plain.{plain_document, plain_item, plain_paragraph}

@@ -8,7 +8,7 @@ use Rattle.doc_model.specs.declared.edit.EditOp.{EditOp}
 use Rattle.doc_model.specs.declared.refusal.Refusal.{Refusal}
 use Rattle.doc_model.specs.declared.refusal.Refusal.TheVariants as refusal
 use Rattle.doc_model.specs.declared.refusal.Limit.TheVariants.{Operations}
-use Rattle.doc_model.specs.Edit.{Edited, edited, first_refusal, edited_by, edited_by_group}
+use Rattle.edit_model.specs.Edit.{Edited, edited, first_refusal, edited_by, edited_by_group}
 
 one_of : (old : Edited) (index : ℕ) (op : EditOp) (ops : List EditOp) (why : Option Refusal) → first_refusal old op ≡ why
     → edited_by old index (op ∷ ops) ≡ option_map_or (λ why. Err (index, why)) why (edited_by (edited old op) (index + 1) ops)

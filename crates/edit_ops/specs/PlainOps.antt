@@ -7,7 +7,7 @@ use Rattle.doc_model.specs.declared.document.Document.{Document}
 use Rattle.doc_model.specs.declared.paragraph.ParId.{ParId}
 use Rattle.doc_model.specs.declared.refusal.Refusal.{Refusal}
 use Rattle.doc_model.specs.Chars.{IsPlainChar}
-use Rattle.doc_model.specs.Edit.{first_refusal, edited_by_group}
+use Rattle.edit_model.specs.Edit.{first_refusal, edited_by_group}
 use Rattle.edit_ops.specs.declared.fault.EditFault.{EditFault}
 use Rattle.edit_ops.specs.declared.fault.EditFault.TheVariants.{Refused, NoMemory}
 

@@ -6,7 +6,7 @@ ghost use Rattle.std.specs.Option.{option_map};
 ghost use Rattle.doc_model.specs.declared.block.Block.{roll-Block};
 ghost use Rattle.doc_model.specs.declared.block.Block.TheOpen.{Block-F};
 ghost use Rattle.doc_model.specs.declared.refusal.Limit.TheVariants as limit;
-ghost use Rattle.doc_model.specs.Edit.{edited, first_refusal, live_paragraph, item_count, with_items};
+ghost use Rattle.edit_model.specs.Edit.{edited, first_refusal, live_paragraph, item_count, with_items};
 ghost use Rattle.doc_model.specs.Limits.{measure};
 ghost use Rattle.doc_model.specs.Parts.{items_of};
 ghost use Rattle.doc_model.specs.Plain.{IsPlain, plain_item, plain_paragraph};

@@ -2,7 +2,7 @@
 
 ghost use Rattle.std.specs.Prelude.{◌≡◌, ℕ, IfOk, IfErr, Ok};
 ghost use Rattle.std.specs.List.{AllByRecursion as Each};
-ghost use Rattle.doc_model.specs.Edit.{edited_by_group};
+ghost use Rattle.edit_model.specs.Edit.{edited_by_group};
 ghost use Rattle.doc_model.specs.Plain.{IsPlain};
 ghost use Rattle.edit_ops.specs.PlainOps.{IsPlainOp, IsFirstRefusal};
 

@@ -3,7 +3,7 @@
 ghost use Rattle.std.specs.Prelude.{◌≡◌, ℕ, List, [], ◌∷◌, map, IfOk};
 ghost use Rattle.std.specs.List.{AllByRecursion as Each};
 ghost use Rattle.doc_model.specs.Plain.{IsPlain, plain_document, plain_item};
-ghost use Rattle.doc_model.specs.Valid.{unstated};
+ghost use Rattle.doc_model.specs.Empty.{unstated};
 ghost use Rattle.edit_ops.specs.PlainOps.{IsPlainOp};
 
 use crate::items::replace_range;

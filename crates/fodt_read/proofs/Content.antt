@@ -4,8 +4,8 @@ use Rattle.std.specs.Prelude.{◌⊎◌, replicate}
 use Rattle.std.specs.List.{AllByRecursion as Each}
 use Rattle.std.proofs.lemmas.List.{append_cancel_left, length-replicate}
 use Rattle.doc_model.specs.Chars.{IsPlainChar}
-use Rattle.doc_model.specs.declared.spelling.TheConstants.{EMPTY_PARAGRAPH, PARAGRAPH}
-use Rattle.doc_model.specs.Spelling.{escaped, spaces, empty_paragraph, paragraph_start, paragraph_end}
+use Rattle.spelling_model.specs.declared.pieces.TheConstants.{EMPTY_PARAGRAPH, PARAGRAPH}
+use Rattle.spelling_model.specs.Spelling.{escaped, spaces, empty_paragraph, paragraph_start, paragraph_end}
 use Rattle.plain_doc.specs.PlainSpelling.{plain_content, plain_paragraph_bytes}
 use Rattle.fodt_read.specs.PlainText.{IsUnmarked, IsEntity, IsPlainText}
 use Rattle.fodt_read.proofs.Pieces.{Single, Waiting, next, escaped_cases, entity_front, spaces_front, spaces_second}

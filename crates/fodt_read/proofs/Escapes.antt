@@ -2,8 +2,8 @@
 use Rattle.std.proofs.Common.{◌≡◌, ◌≢◌, ℕ, ◌≤◌, List, ◌++◌, get_or, refl, ap, sym, ◌∙◌, arith, zero, suc, append_assoc, inl, inr}
 use Rattle.std.specs.Prelude.{codes, decimal}
 use Rattle.std.proofs.lemmas.List.{append_cancel_left}
-use Rattle.doc_model.specs.declared.spelling.TheConstants.{SPACE, SPACES, SPACES_END}
-use Rattle.doc_model.specs.Spelling.{escaped, spaces}
+use Rattle.spelling_model.specs.declared.pieces.TheConstants.{SPACE, SPACES, SPACES_END}
+use Rattle.spelling_model.specs.Spelling.{escaped, spaces}
 use Rattle.fodt_read.specs.PlainText.{IsEntity}
 
 -- two texts that begin with different entities differ in their second byte

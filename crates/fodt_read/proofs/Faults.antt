@@ -3,7 +3,7 @@ use Rattle.std.proofs.Common.{◌≡◌, ◌≢◌, ℕ, List, refl, sym, ◌∙
 use Rattle.std.specs.Prelude.{Result, Ok, Err, MatchResult, IfErr, IsErrAnd}
 use Rattle.doc_model.specs.declared.document.Document.{Document}
 use Rattle.doc_model.specs.Plain.{IsPlain}
-use Rattle.doc_model.specs.Spelling.{canonical}
+use Rattle.spelling_model.specs.Spelling.{canonical}
 use Rattle.fodt_read.specs.declared.fault.LoadFault.{LoadFault}
 use Rattle.fodt_read.specs.declared.fault.LoadFault.TheVariants.{NotPlain, NoMemory}
 

@@ -4,9 +4,9 @@ use Rattle.std.specs.Prelude.{Option, None, Some, MatchOption, IsSomeAnd}
 use Rattle.std.specs.List.{flat_map}
 use Rattle.std.proofs.lemmas.List.{append_cancel_left}
 use Rattle.doc_model.specs.declared.document.Document.{Document}
-use Rattle.doc_model.specs.declared.spelling.TheConstants.{ROOT, ROOT_END, BODY}
+use Rattle.spelling_model.specs.declared.pieces.TheConstants.{ROOT, ROOT_END, BODY}
 use Rattle.doc_model.specs.Plain.{plain_document, IsPlainOf}
-use Rattle.doc_model.specs.Spelling.{canonical, head, opening, tail}
+use Rattle.spelling_model.specs.Spelling.{canonical, head, opening, tail}
 use Rattle.doc_model.specs.Valid.{IsValid}
 use Rattle.plain_doc.specs.PlainSpelling.{plain_paragraph_bytes}
 use Rattle.plain_doc.proofs.Spelled.{canonical-plain}

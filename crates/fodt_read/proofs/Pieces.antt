@@ -4,7 +4,7 @@ use Rattle.std.specs.Prelude.{◌==◌, not, ◌&&◌, ◌⊎◌, if◌then◌el
 use Rattle.std.proofs.lemmas.Bool.Decides.{eqb_tells}
 use Rattle.std.proofs.lemmas.Str.Ascii.{encode_ascii}
 use Rattle.doc_model.specs.Chars.{IsPlainChar}
-use Rattle.doc_model.specs.Spelling.{escaped, spaces, stands_for_itself}
+use Rattle.spelling_model.specs.Spelling.{escaped, spaces, is_there}
 use Rattle.plain_doc.specs.PlainSpelling.{plain_content}
 use Rattle.fodt_read.specs.PlainText.{IsUnmarked, IsEntity}
 
@@ -72,7 +72,7 @@ next_by false false c cs is = inl (record { after_word = true; spelled = refl })
 
 -- what content begins with
 pub next : (after_word : Bool) (c : ℕ) (cs : List ℕ) → Single c cs (plain_content 0 after_word (c ∷ cs)) ⊎ Waiting (c ∷ cs) (plain_content 0 after_word (c ∷ cs))
-next after_word c cs = next_by (c == 0x20) (stands_for_itself after_word cs) c cs refl
+next after_word c cs = next_by (c == 0x20) (after_word && is_there cs) c cs refl
 
 -- a plain character has an entity or stands for itself
 pub escaped_cases : (c : ℕ) → IsPlainChar c → IsEntity c ⊎ (IsUnmarked c × (escaped c ≡ c ∷ []))

@@ -8,7 +8,7 @@ use Rattle.doc_model.specs.declared.block.Block.{Block, roll-Block}
 use Rattle.doc_model.specs.declared.block.Block.TheOpen.{Block-F}
 use Rattle.doc_model.specs.Chars.{IsPlainChar}
 use Rattle.doc_model.specs.Plain.{plain_blocks, plain_paragraph}
-use Rattle.doc_model.specs.Spelling.{tail, empty_paragraph, paragraph_start}
+use Rattle.spelling_model.specs.Spelling.{tail, empty_paragraph, paragraph_start}
 use Rattle.plain_doc.specs.PlainSpelling.{plain_paragraph_bytes}
 use Rattle.fodt_read.specs.PlainText.{IsPlainText, ArePlain}
 use Rattle.fodt_read.proofs.Runs.{Each-append, Each-of}

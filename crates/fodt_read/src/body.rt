@@ -2,7 +2,7 @@
 ghost use Rattle.std.specs.Prelude.{◌≡◌, ℕ, ◌≤◌, ◌<◌, ◌↔◌, List, [], ◌∷◌, ◌++◌, length, IsTrue, IfOk, OnOk, MatchResult};
 ghost use Rattle.std.specs.List.{flat_map};
 ghost use Rattle.doc_model.specs.Plain.{plain_blocks};
-ghost use Rattle.doc_model.specs.Spelling.{tail};
+ghost use Rattle.spelling_model.specs.Spelling.{tail};
 ghost use Rattle.plain_doc.specs.PlainSpelling.{plain_paragraph_bytes};
 ghost use Rattle.fodt_read.specs.PlainText.{ArePlain};
 
@@ -10,7 +10,7 @@ use crate::build::plain_block;
 use crate::fault::LoadFault;
 use crate::paragraph::read_paragraph;
 use doc_model::Block;
-use doc_model::spelling::TAIL;
+use spelling_model::TAIL;
 use std::alloc::{AllocError, Global};
 
 // How many paragraphs a document may have.

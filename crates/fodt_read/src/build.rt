@@ -3,11 +3,8 @@ ghost use Rattle.std.specs.Prelude.{◌≡◌, ℕ, List, map, IfOk};
 ghost use Rattle.doc_model.specs.declared.block.Block.{roll-Block};
 ghost use Rattle.doc_model.specs.declared.block.Block.TheOpen.{Block-F};
 ghost use Rattle.doc_model.specs.Plain.{plain_blocks, plain_document, plain_item, plain_paragraph};
-ghost use Rattle.doc_model.specs.Valid.{unstated as nothing_stated};
 
-use doc_model::{
-    Block, Document, Item, List, ListStyle, Name, NoteStart, Par, ParId, Props, Spans, What,
-};
+use doc_model::{Block, Document, Item, List, Name, Par, ParId, Spans, What};
 use sqlite_items::Items;
 use std::alloc::{AllocError, Global};
 
@@ -44,44 +41,5 @@ fn plain_items(alloc: Global, text: &[u8]) -> Result<Vec<Item>, AllocError>
 pub(crate) fn document_of(alloc: Global, blocks: Vec<Block>) -> Document
     ensures { (texts : List (List ℕ)) → blocks.items ≡ plain_blocks 1 texts → result ≡ plain_document texts }
 {
-    Document {
-        global: false,
-        defaults: unstated(),
-        styles: List::new(alloc),
-        lists: List::new(alloc),
-        outline: ListStyle {
-            name: Name::none(alloc),
-            levels: List::new(alloc),
-        },
-        layouts: List::new(alloc),
-        masters: List::new(alloc),
-        variables: List::new(alloc),
-        sequences: List::new(alloc),
-        counting: NoteStart::Document,
-        body: List::from_list(blocks),
-    }
-}
-
-// The properties of which none is stated.
-#[tactic(auto, unfolding(doc_model::specs::Valid::unstated))]
-fn unstated() -> Props
-    ensures { result ≡ nothing_stated }
-{
-    Props {
-        margin_left: None,
-        margin_right: None,
-        margin_top: None,
-        margin_bottom: None,
-        indent: None,
-        align: None,
-        break_before: None,
-        break_after: None,
-        keep_next: None,
-        keep_together: None,
-        widows: None,
-        orphans: None,
-        page_number: None,
-        display: None,
-        tabs: None,
-    }
+    Document::from_body(alloc, List::from_list(blocks))
 }

@@ -1,11 +1,11 @@
 //! What stands in a paragraph for characters that can't stand for themselves.
 ghost use Rattle.std.specs.Prelude.{◌≡◌, ◌≢◌, ℕ, ◌+◌, ◌≤◌, ◌<◌, List, ◌∷◌, ◌++◌, length, decimal, IfSome, IsSomeAnd, MatchOption};
 ghost use Rattle.doc_model.specs.Chars.{IsPlainChar};
-ghost use Rattle.doc_model.specs.Spelling.{escaped, spaces};
+ghost use Rattle.spelling_model.specs.Spelling.{escaped, spaces};
 ghost use Rattle.fodt_read.specs.PlainText.{IsEntity};
 
 use crate::front::after;
-use doc_model::spelling::{SPACE, SPACES, SPACES_END};
+use spelling_model::{SPACE, SPACES, SPACES_END};
 
 /// How many characters a paragraph may have.
 pub(crate) const MOST_OF_PARAGRAPH: usize = 32768;

@@ -2,7 +2,7 @@
 ghost use Rattle.std.specs.Prelude.{◌≡◌, ◌≢◌, ℕ, List, ◌++◌, ◌↔◌, IsTrue, IfOk, IfErr, IsSomeAnd};
 ghost use Rattle.doc_model.specs.declared.document.Document.{Document};
 ghost use Rattle.doc_model.specs.Plain.{IsPlain};
-ghost use Rattle.doc_model.specs.Spelling.{canonical, head, opening};
+ghost use Rattle.spelling_model.specs.Spelling.{canonical, head, opening, IsWritten};
 
 use crate::body::read_body;
 use crate::build::document_of;
@@ -10,7 +10,7 @@ use crate::fault::LoadFault;
 use crate::front::after;
 use canon_save::save;
 use doc_model::Document;
-use doc_model::spelling::{BODY, ROOT, ROOT_END};
+use spelling_model::{BODY, ROOT, ROOT_END};
 use std::alloc::{AllocError, Global};
 
 /// The plain document whose canonical bytes these are. Its paragraphs are numbered from 1 in reading order.
@@ -37,6 +37,7 @@ pub fn load_plain(alloc: Global, bytes: &[u8]) -> Result<Document, LoadFault>
 
 // Whether these are the canonical bytes of a document.
 fn is_spelled(alloc: Global, doc: &Document, bytes: &[u8]) -> Result<bool, AllocError>
+    requires { IsWritten doc.now }
     ensures { IfOk result (λ same. IsTrue same ↔ (canonical doc.now ≡ bytes.now)) }
 {
     let spelled = save(alloc, doc)?;

@@ -1,14 +1,14 @@
 //! Reading the characters of a paragraph.
 ghost use Rattle.std.specs.Prelude.{◌≡◌, ℕ, ◌+◌, ◌≤◌, ◌<◌, ◌↔◌, List, [], ◌∷◌, ◌++◌, length, take, drop, replicate, false, IsTrue, IfOk, OnOk, IfErr, MatchResult};
 ghost use Rattle.std.specs.List.{AllByRecursion as Each};
-ghost use Rattle.doc_model.specs.Spelling.{paragraph_end};
+ghost use Rattle.spelling_model.specs.Spelling.{paragraph_end};
 ghost use Rattle.plain_doc.specs.PlainSpelling.{plain_content, plain_paragraph_bytes};
 ghost use Rattle.fodt_read.specs.PlainText.{IsPlainText, IsUnmarked};
 
 use crate::escape::{MOST_OF_PARAGRAPH, read_escape};
 use crate::fault::LoadFault;
 use crate::front::after;
-use doc_model::spelling::{EMPTY_PARAGRAPH, PARAGRAPH, PARAGRAPH_END};
+use spelling_model::{EMPTY_PARAGRAPH, PARAGRAPH, PARAGRAPH_END};
 
 // Reads a paragraph at the front of the bytes. Its characters are put in the place of the text, and the bytes
 // after it are answered.

@@ -2,7 +2,7 @@
 
 use crate::{LoadFault, load_plain};
 use canon_save::save;
-use doc_model::spelling::{BODY, ROOT, ROOT_END, TAIL};
+use spelling_model::{BODY, ROOT, ROOT_END, TAIL};
 use std::alloc::Global;
 use std::test::Fail;
 

@@ -7,9 +7,9 @@ use Rattle.std.proofs.lemmas.Bool.Decides.{eqb_tells}
 use Rattle.std.proofs.lemmas.List.{length-append}
 use Rattle.doc_model.specs.Reading.{upwards}
 use Rattle.line_model.specs.declared.key.Key.{Key}
-use Rattle.desk_model.specs.Keys.{is_same_key}
-use Rattle.desk_model.specs.Idle.{Live, with_key, without_oldest, with_live, most_keys}
-use Rattle.desk_model.proofs.KeyLemmas.{is_same_key-true, is_same_key-refl}
+use Rattle.line_model.specs.Keys.{is_same_key}
+use Rattle.round_model.specs.Idle.{Live, with_key, without_oldest, with_live, most_keys}
+use Rattle.line_model.proofs.KeyLemmas.{is_same_key-true, is_same_key-refl}
 
 neq-eqb : (a b : ℕ) → (a ≡ b → ⊥) → (a == b) ≡ false
 neq-eqb a b apart = elim (eqb_tells a b) [ inl e ↦ absurd (apart e.1) | inr e ↦ e.0 ]

@@ -11,9 +11,9 @@ use Rattle.doc_model.specs.declared.document.Document.{Document}
 use Rattle.doc_model.specs.declared.paragraph.Par.{Par}
 use Rattle.doc_model.specs.Plain.{IsPlain}
 use Rattle.doc_model.specs.Reading.{paragraphs, number_of, upwards}
-use Rattle.desk_model.specs.Idle.{Idle, Live, live_at, live_after, restarted, most_keys}
-use Rattle.desk_model.specs.Reached.{IsReached}
-use Rattle.desk_model.specs.Stops.{full_debt, paragraph_count}
+use Rattle.round_model.specs.Idle.{Idle, Live, live_at, live_after, restarted, most_keys}
+use Rattle.round_model.specs.Reached.{IsReached}
+use Rattle.round_model.specs.Stops.{full_debt, paragraph_count}
 use Rattle.idle_queue.specs.Marked.{marked}
 use Rattle.idle_queue.proofs.PlainPlaces.{map-of-map, numbers_of, number_in}
 use Rattle.idle_queue.proofs.Turns.{live_at-place, length-upwards, length-of-map}

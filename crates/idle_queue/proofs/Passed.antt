@@ -1,8 +1,8 @@
 -- How many paragraphs have the form stop of the present round behind them, before and behind a stop.
 use Rattle.std.proofs.Common.{◌≡◌, ℕ, ◌+◌, ◌-◌, ◌*◌, ◌/◌, ◌%◌, ◌≤◌, ◌⊎◌, refl, ap, ◌∙◌, arith, inl, inr}
 use Rattle.doc_model.specs.declared.document.Document.{Document}
-use Rattle.desk_model.specs.Stops.{Stop, stop_at, debt_behind, paragraph_count}
-use Rattle.desk_model.proofs.StopLemmas.{StopCase, at_settled, at_finish, at_gather, at_form, at_place, stop_case, place_even, place_odd, place_last, place_first, behind_stop, behind_place, debt_behind-at}
+use Rattle.round_model.specs.Stops.{Stop, stop_at, debt_behind, paragraph_count}
+use Rattle.round_model.proofs.StopLemmas.{StopCase, at_settled, at_finish, at_gather, at_form, at_place, stop_case, place_even, place_odd, place_last, place_first, behind_stop, behind_place, debt_behind-at}
 use Rattle.idle_queue.specs.StopOf.{places_passed}
 
 -- how many have it behind them once a stop is passed, at most

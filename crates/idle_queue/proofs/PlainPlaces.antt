@@ -24,10 +24,10 @@ use Rattle.plain_doc.specs.PlainParts.{ArePlainTexts, plain_pars}
 use Rattle.plain_doc.proofs.Parts.{paragraphs-plain, items_of-plain_paragraph}
 use Rattle.plain_doc.proofs.Passed.{length-plain_blocks}
 use Rattle.plain_doc.proofs.Valid.{ArePlainTexts-valid, numbers-plain}
-use Rattle.desk_model.specs.Keys.{key_of}
-use Rattle.desk_model.specs.Rounds.{SetPar, set_in}
-use Rattle.desk_model.specs.Idle.{set_at}
-use Rattle.desk_model.specs.Stops.{paragraph_count}
+use Rattle.line_model.specs.Keys.{key_of}
+use Rattle.round_model.specs.Rounds.{SetPar, set_in}
+use Rattle.round_model.specs.Idle.{set_at}
+use Rattle.round_model.specs.Stops.{paragraph_count}
 
 neq-eqb : (a b : ℕ) → (a ≡ b → ⊥) → (a == b) ≡ false
 neq-eqb a b apart = elim (eqb_tells a b) [ inl e ↦ absurd (apart e.1) | inr e ↦ e.0 ]

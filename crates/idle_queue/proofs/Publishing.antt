@@ -13,14 +13,14 @@ use Rattle.doc_model.specs.Reading.{paragraphs, number_of, upwards}
 use Rattle.line_model.specs.declared.key.Key.{Key}
 use Rattle.line_model.specs.declared.job.Job.{Job}
 use Rattle.line_model.specs.declared.job.Stamp.{Stamp}
-use Rattle.desk_model.specs.declared.turn.Published.{Published}
-use Rattle.desk_model.specs.declared.turn.Published.TheVariants.{Stale, Already, Entered}
-use Rattle.desk_model.specs.Keys.{key_of, is_same_key}
-use Rattle.desk_model.specs.Rounds.{SetPar}
-use Rattle.desk_model.specs.Idle.{Idle, Live, publish, set_at, live_at, keeps, stamp_of, is_in_use, is_form_stop_of, with_key, with_live, most_keys, is_same_stamp}
-use Rattle.desk_model.specs.Reached.{IsReached}
-use Rattle.desk_model.specs.Stops.{Stop, stop_at, full_debt, debt_behind, paragraph_count}
-use Rattle.desk_model.proofs.KeyLemmas.{is_same_key-true, is_same_key-refl}
+use Rattle.round_model.specs.declared.turn.Published.{Published}
+use Rattle.round_model.specs.declared.turn.Published.TheVariants.{Stale, Already, Entered}
+use Rattle.line_model.specs.Keys.{key_of, is_same_key}
+use Rattle.round_model.specs.Rounds.{SetPar}
+use Rattle.round_model.specs.Idle.{Idle, Live, publish, set_at, live_at, keeps, stamp_of, is_in_use, is_form_stop_of, with_key, with_live, most_keys, is_same_stamp}
+use Rattle.round_model.specs.Reached.{IsReached}
+use Rattle.round_model.specs.Stops.{Stop, stop_at, full_debt, debt_behind, paragraph_count}
+use Rattle.line_model.proofs.KeyLemmas.{is_same_key-true, is_same_key-refl}
 use Rattle.idle_queue.specs.StopOf.{places_passed}
 use Rattle.idle_queue.specs.Current.{is_current}
 use Rattle.idle_queue.specs.FormTest.{is_form_at}

@@ -6,7 +6,7 @@ use Rattle.std.specs.List.{list_any, remove}
 use Rattle.std.proofs.lemmas.List.{take_more, append-nil, map-append, take_all}
 use Rattle.line_model.specs.declared.key.Key.{Key}
 use Rattle.line_model.specs.declared.job.Job.{Job}
-use Rattle.desk_model.specs.Idle.{without_oldest}
+use Rattle.round_model.specs.Idle.{without_oldest}
 
 -- the keys of rows
 abbrev pub keys_of : List Job → List Key

@@ -12,11 +12,11 @@ use Rattle.doc_model.specs.declared.paragraph.Par.{Par}
 use Rattle.doc_model.specs.Plain.{IsPlain}
 use Rattle.doc_model.specs.Reading.{paragraphs}
 use Rattle.line_model.specs.declared.key.Key.{Key}
-use Rattle.desk_model.specs.Keys.{key_of}
-use Rattle.desk_model.specs.Rounds.{SetPar, set_in, rows_of, pages_in, last_round}
-use Rattle.desk_model.specs.Idle.{Idle, Live, keeps}
-use Rattle.desk_model.specs.Reached.{IsReached}
-use Rattle.desk_model.specs.Stops.{stop_at, paragraph_count}
+use Rattle.line_model.specs.Keys.{key_of}
+use Rattle.round_model.specs.Rounds.{SetPar, set_in, rows_of, pages_in, last_round}
+use Rattle.round_model.specs.Idle.{Idle, Live, keeps}
+use Rattle.round_model.specs.Reached.{IsReached}
+use Rattle.round_model.specs.Stops.{stop_at, paragraph_count}
 use Rattle.idle_queue.specs.StopOf.{places_passed}
 use Rattle.idle_queue.proofs.PlainPlaces.{set_of, there}
 use Rattle.idle_queue.proofs.Turns.{live_numbers, live_at-place, in_use-from}

@@ -7,10 +7,10 @@ use Rattle.doc_model.specs.declared.paragraph.Par.{Par}
 use Rattle.doc_model.specs.Plain.{IsPlain}
 use Rattle.doc_model.specs.Reading.{paragraphs, number_of, upwards}
 use Rattle.line_model.specs.declared.key.Key.{Key}
-use Rattle.desk_model.specs.Idle.{Idle, Live, idle_at, most_keys}
-use Rattle.desk_model.specs.Reached.{IsReached}
-use Rattle.desk_model.specs.Stops.{stop_at, full_debt, paragraph_count}
-use Rattle.desk_model.proofs.StopLemmas.{StopCase, at_settled, at_finish, at_gather, at_form, at_place, stop_case}
+use Rattle.round_model.specs.Idle.{Idle, Live, idle_at, most_keys}
+use Rattle.round_model.specs.Reached.{IsReached}
+use Rattle.round_model.specs.Stops.{stop_at, full_debt, paragraph_count}
+use Rattle.round_model.proofs.StopLemmas.{StopCase, at_settled, at_finish, at_gather, at_form, at_place, stop_case}
 use Rattle.idle_queue.specs.StopOf.{places_passed}
 use Rattle.idle_queue.proofs.PlainPlaces.{numbers_of, map-of-map, some_paragraphs}
 use Rattle.idle_queue.proofs.Uses.{Used, used-found}
@@ -63,7 +63,7 @@ reached_full doc idle plain live full few = record {
   nothing : (count : ℕ) → 1 ≤ count → idle.debt ≡ full_debt count → StopCase count idle.debt → places_passed count (stop_at count idle.debt) ≡ 0
   nothing count some full (at_settled none at) = absurd (omega arith)
   nothing count some full (at_finish one at) = absurd (omega arith)
-  nothing count some full (at_gather many at) = ap (λ (s : Rattle.desk_model.specs.Stops.Stop). places_passed count s) at
+  nothing count some full (at_gather many at) = ap (λ (s : Rattle.round_model.specs.Stops.Stop). places_passed count s) at
   nothing count some full (at_form more few even at) = absurd (omega arith)
   nothing count some full (at_place more few odd at) = absurd (omega arith)
 

@@ -12,15 +12,15 @@ use Rattle.doc_model.specs.Reading.{paragraphs, number_of, upwards}
 use Rattle.line_model.specs.declared.key.Key.{Key}
 use Rattle.line_model.specs.declared.job.Job.{Job}
 use Rattle.line_model.specs.declared.job.Stamp.{Stamp}
-use Rattle.desk_model.specs.declared.turn.Taken.{Taken}
-use Rattle.desk_model.specs.declared.turn.Taken.TheVariants as took
-use Rattle.desk_model.specs.Keys.{key_of, is_same_key}
-use Rattle.desk_model.specs.Rounds.{SetPar}
-use Rattle.desk_model.specs.Idle.{Idle, Live, take, job_at, live_at, keeps, stamp_of, is_in_use}
-use Rattle.desk_model.specs.Reached.{IsReached}
-use Rattle.desk_model.specs.Stops.{Stop, stop_at, debt_behind, paragraph_count}
-use Rattle.desk_model.proofs.KeyLemmas.{is_same_key-refl}
-use Rattle.desk_model.proofs.StopLemmas.{StopCase, at_settled, at_finish, at_gather, at_form, at_place, stop_case, debt_behind-at, debt_behind-lt}
+use Rattle.round_model.specs.declared.turn.Taken.{Taken}
+use Rattle.round_model.specs.declared.turn.Taken.TheVariants as took
+use Rattle.line_model.specs.Keys.{key_of, is_same_key}
+use Rattle.round_model.specs.Rounds.{SetPar}
+use Rattle.round_model.specs.Idle.{Idle, Live, take, job_at, live_at, keeps, stamp_of, is_in_use}
+use Rattle.round_model.specs.Reached.{IsReached}
+use Rattle.round_model.specs.Stops.{Stop, stop_at, debt_behind, paragraph_count}
+use Rattle.line_model.proofs.KeyLemmas.{is_same_key-refl}
+use Rattle.round_model.proofs.StopLemmas.{StopCase, at_settled, at_finish, at_gather, at_form, at_place, stop_case, debt_behind-at, debt_behind-lt}
 use Rattle.idle_queue.specs.declared.stop.Stop as code
 use Rattle.idle_queue.specs.declared.stop.Stop.TheVariants as code_stop
 use Rattle.idle_queue.specs.StopOf.{stop_of, places_passed}

@@ -10,11 +10,11 @@ use Rattle.doc_model.specs.declared.paragraph.Par.{Par}
 use Rattle.doc_model.specs.Plain.{IsPlain}
 use Rattle.doc_model.specs.Reading.{paragraphs, upwards}
 use Rattle.line_model.specs.declared.key.Key.{Key}
-use Rattle.desk_model.specs.Keys.{key_of, is_same_key}
-use Rattle.desk_model.specs.Rounds.{SetPar, set_in}
-use Rattle.desk_model.specs.Idle.{is_in_use, place_of}
-use Rattle.desk_model.specs.Stops.{Stop, stop_at, paragraph_count}
-use Rattle.desk_model.proofs.KeyLemmas.{is_same_key-true}
+use Rattle.line_model.specs.Keys.{key_of, is_same_key}
+use Rattle.round_model.specs.Rounds.{SetPar, set_in}
+use Rattle.round_model.specs.Idle.{is_in_use, place_of}
+use Rattle.round_model.specs.Stops.{Stop, stop_at, paragraph_count}
+use Rattle.line_model.proofs.KeyLemmas.{is_same_key-true}
 use Rattle.idle_queue.specs.StopOf.{places_passed}
 use Rattle.idle_queue.proofs.PlainPlaces.{found-at, found-below, set_of, set_numbers}
 

@@ -1,7 +1,7 @@
 -- The key of a paragraph that is in use.
 use Rattle.std.specs.Prelude.{Bool, false, Option, Some, None}
 use Rattle.line_model.specs.declared.key.Key.{Key}
-use Rattle.desk_model.specs.Keys.{is_same_key}
+use Rattle.line_model.specs.Keys.{is_same_key}
 
 -- whether a key is the one in use, if there is one
 abbrev pub is_current : Option Key → Key → Bool

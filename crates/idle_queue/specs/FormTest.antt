@@ -1,6 +1,6 @@
 -- The form stop of a paragraph, by its place.
 use Rattle.std.specs.Prelude.{ℕ, ◌==◌, ◌&&◌, Bool, false}
-use Rattle.desk_model.specs.Stops.{Stop}
+use Rattle.round_model.specs.Stops.{Stop}
 
 -- whether a stop is the form stop at this place, and the key is the present one
 abbrev pub is_form_at : ℕ → Bool → Stop → Bool

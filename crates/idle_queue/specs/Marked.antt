@@ -1,7 +1,7 @@
 -- The live paragraphs that a change touches.
 use Rattle.std.specs.Prelude.{ℕ, ◌==◌, if◌then◌else◌, List}
 use Rattle.std.specs.List.{list_any}
-use Rattle.desk_model.specs.Idle.{Live}
+use Rattle.round_model.specs.Idle.{Live}
 
 -- a live paragraph after a change that touches the paragraphs of these numbers and makes this version
 abbrev pub marked : ℕ → List ℕ → Live → Live

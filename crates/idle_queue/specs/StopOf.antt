@@ -1,6 +1,6 @@
 -- Stops as the definitions know them, and how far a round has come at one.
 use Rattle.std.specs.Prelude.{ℕ, ◌+◌}
-use Rattle.desk_model.specs.Stops as desk
+use Rattle.round_model.specs.Stops as desk
 use Rattle.idle_queue.specs.declared.stop.Stop.{Stop}
 use Rattle.idle_queue.specs.declared.stop.Stop.TheVariants as stop
 

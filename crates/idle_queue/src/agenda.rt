@@ -7,13 +7,13 @@ ghost use Rattle.doc_model.specs.declared.document.Document.{Document};
 ghost use Rattle.doc_model.specs.declared.paragraph.Par.{Par};
 ghost use Rattle.doc_model.specs.Plain.{IsPlain};
 ghost use Rattle.doc_model.specs.Reading.{paragraphs, number_of, upwards};
-ghost use Rattle.desk_model.specs.declared.turn.Taken.TheVariants as took;
-ghost use Rattle.desk_model.specs.Idle.{Live, idle_at, take, publish, job_at, live_at, stamp_of, keeps, with_key, restarted, most_keys};
-ghost use Rattle.desk_model.specs.Keys.{key_of};
-ghost use Rattle.desk_model.specs.Rounds.{last_round, pages_in, rows_of};
-ghost use Rattle.desk_model.specs.Reached.{IsReached};
-ghost use Rattle.desk_model.specs.Stops.{stop_at, full_debt, debt_behind, paragraph_count};
-ghost use Rattle.desk_model.specs.Stops as stops;
+ghost use Rattle.round_model.specs.declared.turn.Taken.TheVariants as took;
+ghost use Rattle.round_model.specs.Idle.{Live, idle_at, take, publish, job_at, live_at, stamp_of, keeps, with_key, restarted, most_keys};
+ghost use Rattle.line_model.specs.Keys.{key_of};
+ghost use Rattle.round_model.specs.Rounds.{last_round, pages_in, rows_of};
+ghost use Rattle.round_model.specs.Reached.{IsReached};
+ghost use Rattle.round_model.specs.Stops.{stop_at, full_debt, debt_behind, paragraph_count};
+ghost use Rattle.round_model.specs.Stops as stops;
 ghost use Rattle.line_model.specs.Lines.{lines_of};
 ghost use Rattle.idle_queue.specs.Current.{is_current};
 ghost use Rattle.idle_queue.specs.MayEnter.{MayEnter};
@@ -24,7 +24,7 @@ use crate::places::{par_at, paragraph_count};
 use crate::stop::{Stop, debt_behind, debt_entered, full_debt, places_passed, stop_at};
 use crate::touched::touch_all;
 use break_units::row;
-use desk_model::{Published, Taken};
+use round_model::{Published, Taken};
 use doc_model::{Document, List, Page, Txt};
 use line_model::{Formed, Job, Key, Line, Stamp};
 use par_keys::key_of;
@@ -46,7 +46,7 @@ pub struct Agenda {
 impl Model for Agenda {
     ghost use Rattle.std.specs.Coded.{codes};
     ghost use Rattle.idle_queue.specs.contracts.kept.LivePar as contract;
-    ghost use Rattle.desk_model.specs.Idle.{Idle};
+    ghost use Rattle.round_model.specs.Idle.{Idle};
 
     ghost Value = { Idle };
 

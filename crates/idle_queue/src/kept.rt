@@ -3,8 +3,8 @@
 ghost use Rattle.std.specs.Prelude.{◌≡◌, true, false, [], OnOk, OnErr, MatchOption, IfSome, map, length, ◌<◌};
 ghost use Rattle.std.specs.List.{remove};
 ghost use Rattle.std.specs.Option.{option_copied, option_map_or};
-ghost use Rattle.desk_model.specs.Keys.{is_same_key};
-ghost use Rattle.desk_model.specs.Idle.{Live, keeps, with_key, without_oldest};
+ghost use Rattle.line_model.specs.Keys.{is_same_key};
+ghost use Rattle.round_model.specs.Idle.{Live, keeps, with_key, without_oldest};
 ghost use Rattle.line_model.specs.Lines.{lines_of};
 ghost use Rattle.idle_queue.specs.Current.{is_current};
 
@@ -28,7 +28,7 @@ impl Model for LivePar {
     ghost use Rattle.std.specs.Prelude.{map};
     ghost use Rattle.std.specs.Coded.{codes};
     ghost use Rattle.line_model.specs.contracts.job.Formed as contract;
-    ghost use Rattle.desk_model.specs.Idle.{Live};
+    ghost use Rattle.round_model.specs.Idle.{Live};
 
     ghost Value = { Live };
 

@@ -3,7 +3,7 @@
 ghost use Rattle.std.specs.Prelude.{◌≡◌, ◌<◌, ◌≤◌, slice_get, Some};
 ghost use Rattle.doc_model.specs.Plain.{IsPlain};
 ghost use Rattle.doc_model.specs.Reading.{paragraphs};
-ghost use Rattle.desk_model.specs.Stops.{paragraph_count};
+ghost use Rattle.round_model.specs.Stops.{paragraph_count};
 
 use doc_model::{Block, Document, Par};
 

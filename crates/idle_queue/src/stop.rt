@@ -2,7 +2,7 @@
 
 ghost use Rattle.std.specs.Prelude.{◌≡◌, ◌≤◌, if◌then◌else◌};
 ghost use Rattle.doc_model.specs.declared.document.Document.{Document};
-ghost use Rattle.desk_model.specs.Stops.{stop_at, full_debt, debt_behind, paragraph_count};
+ghost use Rattle.round_model.specs.Stops.{stop_at, full_debt, debt_behind, paragraph_count};
 ghost use Rattle.idle_queue.specs.FormTest.{is_form_at};
 ghost use Rattle.idle_queue.specs.StopOf.{stop_of, places_passed};
 

@@ -4,18 +4,18 @@ ghost use Rattle.std.specs.Prelude.{◌≡◌, ℕ, List, [], ◌∷◌, IfOk};
 ghost use Rattle.doc_model.specs.declared.block.Block.{roll-Block};
 ghost use Rattle.doc_model.specs.declared.block.Block.TheOpen.{Block-F};
 ghost use Rattle.doc_model.specs.Plain.{IsPlain, plain_blocks, plain_document, plain_paragraph};
-ghost use Rattle.doc_model.specs.Valid.{unstated as nothing_stated};
-ghost use Rattle.desk_model.specs.Reached.{IsReached};
+ghost use Rattle.doc_model.specs.Empty.{unstated as nothing_stated};
+ghost use Rattle.round_model.specs.Reached.{IsReached};
 
 use crate::Agenda;
-use desk_model::{Published, Taken};
+use round_model::{Published, Taken};
 use doc_model::{Block, Document, List, ListStyle, Name, NoteStart, Par, ParId, Props};
 use line_model::{Formed, Job, Line, Stamp};
 use sqlite_items::Items;
 use std::alloc::{AllocError, Global};
 use std::test::Fail;
 
-#[tactic(auto, unfolding(doc_model::specs::Valid::unstated))]
+#[tactic(auto, unfolding(doc_model::specs::Empty::unstated))]
 fn unstated() -> Props
     ensures { result ≡ nothing_stated }
 {

@@ -1,3 +1,4 @@
 pub mod Units
 pub mod Lines
 pub mod Rows
+pub mod Keys

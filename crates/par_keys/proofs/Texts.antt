@@ -12,7 +12,7 @@ use Rattle.doc_model.specs.declared.paragraph.What.{What}
 use Rattle.doc_model.specs.declared.paragraph.What.TheOpen.{What-F}
 use Rattle.doc_model.specs.declared.paragraph.Note.{Note}
 use Rattle.doc_model.specs.Parts.{items_of, what_of}
-use Rattle.desk_model.specs.Keys.{text_of}
+use Rattle.line_model.specs.Keys.{text_of}
 use Rattle.par_keys.specs.ItemText.{text_of_item}
 
 -- one more item

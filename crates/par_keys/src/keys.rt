@@ -2,7 +2,7 @@
 
 ghost use Rattle.std.specs.Prelude.{◌≡◌, ◌≤◌, ◌++◌, length, string_bytes, IfOk, OnOk};
 ghost use Rattle.std.specs.Str.{encode_utf8_all};
-ghost use Rattle.desk_model.specs.Keys.{text_of, key_of};
+ghost use Rattle.line_model.specs.Keys.{text_of, key_of};
 ghost use Rattle.doc_model.specs.Parts.{items_of};
 ghost use Rattle.par_keys.specs.ItemText.{text_of_item};
 

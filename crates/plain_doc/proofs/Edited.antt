@@ -21,9 +21,9 @@ use Rattle.doc_model.specs.declared.block.Block.TheOpen.{Block-F}
 use Rattle.doc_model.specs.declared.block.Block.TheFolds.{fold-roll-Block}
 use Rattle.doc_model.specs.declared.document.Document.{Document}
 use Rattle.doc_model.specs.Reading.{paragraphs, number_of}
-use Rattle.doc_model.specs.Parts.{items_of}
+use Rattle.doc_model.specs.Parts.{items_of, is_mark}
 use Rattle.doc_model.specs.Alike.{in_note, in_paragraph, in_block, in_document}
-use Rattle.doc_model.specs.Edit.{with_items, live_paragraph, item_count, with_text, without_range, spans_before, typed_item, is_mark}
+use Rattle.edit_model.specs.Edit.{with_items, live_paragraph, item_count, with_text, without_range, spans_before, typed_item}
 use Rattle.doc_model.specs.Chars.{IsPlainChar}
 use Rattle.doc_model.specs.Plain.{plain_document, plain_blocks, plain_item, plain_paragraph}
 use Rattle.plain_doc.specs.PlainParts.{plain_pars, with_changed, text_numbered}

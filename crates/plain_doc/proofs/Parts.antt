@@ -15,7 +15,7 @@ use Rattle.doc_model.specs.declared.field.Field.{Field}
 use Rattle.doc_model.specs.declared.block.Block.{Block}
 use Rattle.doc_model.specs.Plain.{plain_item, plain_paragraph, plain_blocks, plain_document}
 use Rattle.doc_model.specs.Reading.{block_paragraphs, body_paragraphs, note_of, notes_of, with_notes, paragraphs, number_of, upwards}
-use Rattle.doc_model.specs.Parts.{items_of, items, notes, fields_of, field_of, mark_of, span_names, sections, kind_and_sections, SectionHead, body_kinds, depth_of, names_of_paragraph}
+use Rattle.doc_model.specs.Parts.{items_of, all_items, notes, all_fields, field_of, mark_of, span_names, sections, block_sections, SectionHead, depth_of, names_of_paragraph}
 use Rattle.plain_doc.specs.PlainParts.{plain_pars}
 
 pub block_paragraphs-plain : (number : ℕ) (texts : List (List ℕ)) → flat_map block_paragraphs (plain_blocks number texts) ≡ plain_pars number texts
@@ -59,7 +59,7 @@ items_of-plain number (text ∷ texts) =
     ap (λ (found : List Item). found ++ flat_map items_of (plain_pars (number + 1) texts)) (items_of-plain_paragraph number text)
     ∙ ap (λ (found : List Item). map plain_item text ++ found) (items_of-plain (number + 1) texts)
 
-pub items-plain : (texts : List (List ℕ)) → items (plain_document texts) ≡ flat_map (λ text. map plain_item text) texts
+pub items-plain : (texts : List (List ℕ)) → all_items (plain_document texts) ≡ flat_map (λ text. map plain_item text) texts
 items-plain texts = ap (λ (pars : List Par). flat_map items_of pars) (paragraphs-plain texts) ∙ items_of-plain 1 texts
 
 -- a function of items that is empty at a plain item is empty at plain items
@@ -71,17 +71,17 @@ pub none_of : {X : Type 0} (f : Item → List X) → ((c : ℕ) → f (plain_ite
 none_of f none [] = refl
 none_of f none (text ∷ texts) = none_of-plain f none text (flat_map (λ text. map plain_item text) texts) ∙ none_of f none texts
 
-pub fields_of-plain : (texts : List (List ℕ)) → fields_of (plain_document texts) ≡ []
+pub fields_of-plain : (texts : List (List ℕ)) → all_fields (plain_document texts) ≡ []
 fields_of-plain texts = ap (λ (found : List Item). flat_map field_of found) (items-plain texts) ∙ none_of field_of (λ c. simp out-roll-What) texts
 
-pub marks-plain : (texts : List (List ℕ)) → flat_map mark_of (items (plain_document texts)) ≡ []
+pub marks-plain : (texts : List (List ℕ)) → flat_map mark_of (all_items (plain_document texts)) ≡ []
 marks-plain texts = ap (λ (found : List Item). flat_map mark_of found) (items-plain texts) ∙ none_of mark_of (λ c. simp out-roll-What) texts
 
 pub span_names-plain : (texts : List (List ℕ)) → span_names (plain_document texts) ≡ []
 span_names-plain texts = ap (λ (found : List Item). flat_map (λ item. (Rattle.doc_model.specs.declared.paragraph.Item.out-Item item).spans) found) (items-plain texts)
     ∙ none_of (λ item. (Rattle.doc_model.specs.declared.paragraph.Item.out-Item item).spans) (λ c. refl) texts
 
-sections_of-plain : (number : ℕ) (texts : List (List ℕ)) → flat_map (λ (block : Block). (kind_and_sections block).1) (plain_blocks number texts) ≡ []
+sections_of-plain : (number : ℕ) (texts : List (List ℕ)) → flat_map (λ (block : Block). block_sections block) (plain_blocks number texts) ≡ []
 sections_of-plain number [] = refl
 sections_of-plain number (text ∷ texts) = simp (fold-roll-Block, sections_of-plain (number + 1) texts)
 

@@ -17,17 +17,14 @@ use Rattle.doc_model.specs.declared.refusal.Limit.TheVariants as limit
 use Rattle.doc_model.specs.declared.document.Document.{Document}
 use Rattle.doc_model.specs.Chars.{IsPlainChar, IsLegal, IsLegalText}
 use Rattle.doc_model.specs.Reading.{paragraphs, number_of, upwards}
-use Rattle.doc_model.specs.Parts.{items, items_of, what_of, kind_and_sections, depth_of, names_of_paragraph, names}
+use Rattle.doc_model.specs.Parts.{items_of, what_of, depth_of, names_of_paragraph, names}
 use Rattle.doc_model.specs.Limits.{measure, limit_number, IsWithinLimits, greatest}
 use Rattle.doc_model.specs.Plain.{plain_document, plain_blocks, plain_item, plain_paragraph}
-use Rattle.doc_model.specs.Valid.{IsValid, IsParagraph, IsItem, StandsAnywhere, unstated}
+use Rattle.doc_model.specs.Empty.{unstated}
+use Rattle.doc_model.specs.Valid.{IsValid, IsParagraph, IsItem}
 use Rattle.plain_doc.specs.PlainParts.{plain_pars, ArePlainTexts}
 use Rattle.plain_doc.proofs.Lists.{fold_max_le, le_fold_max, length-upwards, get_or-upwards, Each-flat_map, Each-map, Each-of, Each-unmap}
 use Rattle.plain_doc.proofs.Parts.{paragraphs-plain, body_paragraphs-plain, items-plain, items_of-plain_paragraph, number_of-plain_paragraph, notes-plain, fields_of-plain, marks-plain, span_names-plain, sections-plain}
-
-kinds-plain : (number : ℕ) (texts : List (List ℕ)) → Each StandsAnywhere (map (λ (block : Block). (kind_and_sections block).0) (plain_blocks number texts))
-kinds-plain number [] = tt
-kinds-plain number (text ∷ texts) = (simp fold-roll-Block tt, kinds-plain (number + 1) texts)
 
 depths-plain : (number : ℕ) (texts : List (List ℕ)) → Each (λ depth. depth ≤ 32) (map depth_of (plain_blocks number texts))
 depths-plain number [] = tt
@@ -157,7 +154,7 @@ pub IsValid-plain : (texts : List (List ℕ)) → ArePlainTexts texts → Each (
 unfolding plain_document unstated
 IsValid-plain texts within chars = record {
   body = λ e. within.some (some_blocks 1 texts e);
-  body_blocks = kinds-plain 1 texts;
+  counting = refl;
   numbers = subst (λ (numbers : List ℕ). AllPairs (λ left right. left ≢ right) numbers) (sym (ap (λ (pars : List Par). map number_of pars) (paragraphs-plain texts) ∙ numbers-plain 1 texts)) (apart-upwards 1 (length texts));
   numbers_given = subst (λ (pars : List Par). Each (λ par. 1 ≤ number_of par) pars) (sym (paragraphs-plain texts)) (positive-plain 1 texts (omega arith));
   each_paragraph = subst (λ (pars : List Par). Each (IsParagraph (plain_document texts)) pars) (sym (paragraphs-plain texts)) (paragraphs-valid (plain_document texts) 1 texts);
@@ -166,7 +163,7 @@ IsValid-plain texts within chars = record {
   each_field = rw (fields_of-plain texts) tt;
   bookmarks = rw (marks-plain texts) tt;
   each_section = rw (sections-plain texts) tt;
-  default_lengths = tt;
+  default_tabs = refl;
   styles = tt;
   styles_in_order = λ i j d before within. absurd (omega arith);
   style_names = λ i j d before within. absurd (omega arith);
@@ -174,7 +171,6 @@ IsValid-plain texts within chars = record {
   style_loops = λ style chain found each leads. absurd (omega (arith, found.2));
   lists = tt;
   outline = (refl, (tt, λ i j d before within. absurd (omega arith)), tt);
-  layouts = tt;
   layout_names_used = tt;
   next_masters = tt;
   headers = tt;

@@ -3,7 +3,7 @@ use Rattle.std.specs.Prelude.{◌≡◌, ℕ, ◌<◌, ◌≤◌, ◌⊎◌, Lis
 use Rattle.doc_model.specs.declared.document.Document.{Document}
 use Rattle.desk_model.specs.declared.script.Numbered.{Numbered}
 use Rattle.doc_model.specs.Plain.{IsPlain}
-use Rattle.doc_model.specs.Spelling.{canonical}
+use Rattle.spelling_model.specs.Spelling.{canonical}
 use Rattle.desk_model.specs.Script.{IsScript, IsFirstBadLine}
 use Rattle.desk_model.specs.Runs.{script_text}
 use Rattle.quill_io.specs.Shelf.{Files}

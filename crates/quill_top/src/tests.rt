@@ -1,7 +1,7 @@
 //! Whole runs over a shelf and sinks in memory.
 
 use crate::{Status, quill_lone};
-use doc_model::spelling::{BODY, ROOT, ROOT_END, TAIL};
+use spelling_model::{BODY, ROOT, ROOT_END, TAIL};
 use quill_io::{MemShelf, MemSink, has_distinct_names};
 use std::alloc::{AllocError, Global};
 use std::test::Fail;

@@ -14,8 +14,6 @@ use line_model::{Job, Stamp};
 use std::alloc::AllocError;
 
 /// Prints a reply behind the number of its line, with a line feed at its end; saved bytes follow that as they are.
-///
-/// The reply about a snapshot, and the refusals that no script can meet, have no words yet.
 pub fn push_reply(out: &mut Vec<u8>, line: u32, reply: &Reply) -> Result<(), AllocError>
     ensures ok { OnOk result (out.new.items ≡ out.old.items ++ numbered_words line (reply_words reply.now)) }
     ensures kept { OnErr result (out.new.items ≡ out.old.items) }
@@ -99,7 +97,7 @@ fn push_words(out: &mut Vec<u8>, reply: &Reply) -> Result<(), AllocError>
         Reply::Text(text) => push_text(out, text.get()),
         Reply::NoPar(par) => push_number_line(out, b"no-par", par.0),
         Reply::Saved(bytes) => push_saved(out, bytes.get()),
-        Reply::Snapped(_) => Ok(()),
+        Reply::Snapped(version) => push_number_line(out, b"snapped", *version),
         Reply::Debt(debt) => push_number_line(out, b"debt", *debt),
         Reply::Version(version) => push_number_line(out, b"version", *version),
     }

@@ -10,7 +10,8 @@ ghost use Rattle.desk_model.specs.Runs.{turn, settle, after_command, script_text
 ghost use Rattle.script_run.specs.PlainScript.{IsPlainScriptCommand};
 
 use desk::Desk;
-use desk_model::{Numbered, Reply, ScriptCommand, Taken};
+use desk_model::{Numbered, Reply, ScriptCommand};
+use round_model::Taken;
 use doc_model::{Document, Name};
 use indexmap::IndexMap;
 use line_frames::form;
@@ -104,7 +105,7 @@ impl Run {
                 self.jobs.insert(name.copy()?, job.copy()?)?;
                 Ok(Reply::Job(job))
             }
-            passed => Ok(passed.into_reply()),
+            passed => Ok(Reply::of_taken(passed)),
         }
     }
 
@@ -123,7 +124,7 @@ impl Run {
             return push_no_job(text, line);
         };
         let formed = form(self.alloc, job)?;
-        let reply = self.desk.publish(&formed)?.into_reply();
+        let reply = Reply::of_published(self.desk.publish(&formed)?);
         push_reply(text, line, &reply)
     }
 
@@ -135,9 +136,9 @@ impl Run {
         match self.desk.take()? {
             Taken::Job(job) => {
                 let formed = form(self.alloc, &job)?;
-                Ok(self.desk.publish(&formed)?.into_reply())
+                Ok(Reply::of_published(self.desk.publish(&formed)?))
             }
-            taken => Ok(taken.into_reply()),
+            taken => Ok(Reply::of_taken(taken)),
         }
     }
 

@@ -8,7 +8,7 @@ ghost use Rattle.script_run.specs.PlainScript.{IsPlainScriptCommand};
 
 use crate::run_script;
 use desk_model::Numbered;
-use doc_model::spelling::{BODY, ROOT, ROOT_END, TAIL};
+use spelling_model::{BODY, ROOT, ROOT_END, TAIL};
 use doc_model::{Document, List};
 use fodt_read::load_plain;
 use script_lang::read_script;

@@ -1,6 +1,6 @@
 use Rattle.std.proofs.Common.{◌≡◌, ℕ, drop}
 use Rattle.doc_model.specs.declared.refusal.Limit.TheVariants as limit
-use Rattle.doc_model.specs.Edit.{edited_by}
+use Rattle.edit_model.specs.Edit.{edited_by}
 use Rattle.doc_model.specs.Limits.{measure}
 use Rattle.doc_model.specs.Plain.{IsPlain}
 use Rattle.edit_ops.proofs.group.edited_by_group.Given as goal

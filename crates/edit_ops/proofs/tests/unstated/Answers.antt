@@ -1,5 +1,5 @@
 use Rattle.std.proofs.Common.{refl}
-use Rattle.doc_model.specs.Valid.{unstated}
+use Rattle.doc_model.specs.Empty.{unstated}
 use Rattle.edit_ops.proofs.tests.unstated.Goals as goal
 
 pub returns : goal.returns

@@ -2,7 +2,7 @@ use Rattle.std.proofs.Common.{◌≡◌, ℕ, List, subst}
 use Rattle.std.specs.Bool.{Decides}
 use Rattle.std.proofs.lemmas.Slice.Eq.{slice_eq-Decides}
 use Rattle.std.proofs.lemmas.Bool.Decides.{Decides-eqb}
-use Rattle.doc_model.specs.Spelling.{tail}
+use Rattle.spelling_model.specs.Spelling.{tail}
 use Rattle.fodt_read.proofs.body.is_tail.Goals as goal
 
 pub returns : goal.returns

@@ -1,6 +1,6 @@
 use Rattle.std.proofs.Common.{◌∙◌, sym, refl}
 use Rattle.std.proofs.lemmas.List.{append_cancel_left}
-use Rattle.doc_model.specs.declared.spelling.TheConstants.{SPACES, SPACES_END}
+use Rattle.spelling_model.specs.declared.pieces.TheConstants.{SPACES, SPACES_END}
 use Rattle.fodt_read.proofs.Escapes.{spaces_one, spaces_many}
 use Rattle.fodt_read.proofs.escape.read_spaces.Goals as goal
 

@@ -1,6 +1,6 @@
 use Rattle.std.proofs.Common.{sym, ◌∙◌}
 use Rattle.std.proofs.lemmas.List.{append_cancel_left}
-use Rattle.doc_model.specs.declared.spelling.TheConstants.{ROOT, ROOT_END, BODY}
+use Rattle.spelling_model.specs.declared.pieces.TheConstants.{ROOT, ROOT_END, BODY}
 use Rattle.fodt_read.proofs.Loaded.{opened, found_after}
 use Rattle.fodt_read.proofs.load.after_opening.Goals as goal
 

@@ -1,9 +1,15 @@
 use Rattle.std.proofs.Common.{sym, ap, ◌∙◌}
 use Rattle.std.proofs.lemmas.Bool.Decides.{not_from_Decides}
-use Rattle.doc_model.specs.Spelling.{canonical}
+use Rattle.spelling_model.specs.Spelling.{canonical}
 use Rattle.fodt_read.proofs.Loaded.{are_plain, plain_of, spelled}
+use Rattle.plain_doc.proofs.Spelled.{written_texts}
 use Rattle.fodt_read.proofs.Faults.{not_plain}
 use Rattle.fodt_read.proofs.load.load_plain.Goals as goal
+
+pub is_spelled-requires : goal.is_spelled-requires
+is_spelled-requires c =
+    let read = c.in_ok-blocks.ensures.plain in
+    written_texts read.0 _ (c.document_of-doc.ensures read.0 read.2)
 
 pub returns-in_err-blocks-clause-only : goal.returns-in_err-blocks-clause-only
 returns-in_err-blocks-clause-only c =

@@ -1,7 +1,7 @@
 use Rattle.std.proofs.Common.{ℕ, ◌∙◌, sym, ap, refl, List, ◌++◌, arith, inl, inr}
 use Rattle.std.proofs.lemmas.List.{length-replicate}
 use Rattle.doc_model.specs.Chars.{IsPlainChar}
-use Rattle.doc_model.specs.Spelling.{paragraph_end}
+use Rattle.spelling_model.specs.Spelling.{paragraph_end}
 use Rattle.fodt_read.proofs.Content.{reads_at, reads_run, reads_end, reads_marked, reads_count, room}
 use Rattle.fodt_read.proofs.Faults.{only_memory}
 use Rattle.fodt_read.proofs.Runs.{plain_run, plain_append, Each-replicate}

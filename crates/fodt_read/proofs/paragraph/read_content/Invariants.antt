@@ -1,5 +1,5 @@
 use Rattle.std.proofs.Common.{◌≡◌, ℕ, ◌≤◌, List, ◌++◌, length, false}
-use Rattle.doc_model.specs.Spelling.{paragraph_end}
+use Rattle.spelling_model.specs.Spelling.{paragraph_end}
 use Rattle.plain_doc.specs.PlainSpelling.{plain_content}
 use Rattle.fodt_read.specs.PlainText.{IsPlainText}
 use Rattle.fodt_read.proofs.Content.{Reads}

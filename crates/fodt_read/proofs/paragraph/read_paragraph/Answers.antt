@@ -1,6 +1,6 @@
 use Rattle.std.proofs.Common.{◌∙◌, sym}
 use Rattle.std.proofs.lemmas.List.{append_cancel_left}
-use Rattle.doc_model.specs.declared.spelling.TheConstants.{PARAGRAPH}
+use Rattle.spelling_model.specs.declared.pieces.TheConstants.{PARAGRAPH}
 use Rattle.fodt_read.proofs.Content.{paragraph_spelled, paragraph_empty}
 use Rattle.fodt_read.proofs.paragraph.read_paragraph.Goals as goal
 

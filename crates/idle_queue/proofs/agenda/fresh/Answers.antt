@@ -1,5 +1,5 @@
 use Rattle.std.proofs.Common.{◌∙◌, ap, ◌++◌, ◌∷◌, []}
-use Rattle.desk_model.specs.Idle.{Live}
+use Rattle.round_model.specs.Idle.{Live}
 use Rattle.idle_queue.proofs.Starts.{fresh_more}
 use Rattle.idle_queue.proofs.agenda.fresh.Goals as goal
 

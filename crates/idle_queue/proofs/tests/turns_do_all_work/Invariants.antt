@@ -1,4 +1,4 @@
-use Rattle.desk_model.specs.Reached.{IsReached}
+use Rattle.round_model.specs.Reached.{IsReached}
 use Rattle.idle_queue.proofs.tests.turns_do_all_work.Given as goal
 
 abbrev pub invariant-turns : goal.invariant-turns

@@ -1,7 +1,7 @@
 use Rattle.std.proofs.Common.{◌∙◌, sym}
 use Rattle.std.specs.Prelude.{string_bytes}
 use Rattle.std.proofs.lemmas.Str.{chars_from_encodes, IsUtf8-had}
-use Rattle.desk_model.specs.Keys.{text_of}
+use Rattle.line_model.specs.Keys.{text_of}
 use Rattle.par_keys.proofs.keys.text_of.Goals as goal
 
 pub returns : goal.returns

@@ -1,5 +1,5 @@
 use Rattle.std.proofs.Common.{ap, sym, ◌∙◌}
-use Rattle.desk_model.specs.Stops.{paragraph_count}
+use Rattle.round_model.specs.Stops.{paragraph_count}
 use Rattle.desk_model.specs.Desk.{State, present}
 use Rattle.desk.proofs.Changes.{follows_group, numbers_behind, state_behind}
 use Rattle.desk.proofs.desk.Desk.change.Goals as goal

@@ -1,6 +1,6 @@
 use Rattle.std.proofs.Common.{ap, sym, ◌∙◌, subst}
 use Rattle.doc_model.specs.Plain.{IsPlain}
-use Rattle.desk_model.specs.Stops.{paragraph_count}
+use Rattle.round_model.specs.Stops.{paragraph_count}
 use Rattle.desk_model.specs.Desk.{State}
 use Rattle.desk.proofs.Edits.{edited_by_group-count}
 use Rattle.desk.proofs.desk.Desk.edit.Goals as goal

@@ -1,7 +1,7 @@
 use Rattle.std.proofs.Common.{ap, ◌∙◌, arith}
 use Rattle.doc_model.specs.declared.document.Document.{Document}
 use Rattle.desk_model.specs.declared.reply.Reply.{Reply}
-use Rattle.desk_model.specs.Rounds.{pages_in, last_round}
+use Rattle.round_model.specs.Rounds.{pages_in, last_round}
 use Rattle.desk_model.specs.Desk.{State}
 use Rattle.desk.proofs.PageReplies.{page_reply-settled}
 use Rattle.desk.proofs.desk.Desk.page.Goals as goal

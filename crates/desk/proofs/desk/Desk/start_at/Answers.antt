@@ -1,6 +1,6 @@
 use Rattle.std.proofs.Common.{ℕ, ◌+◌, ◌∙◌, ap, sym, subst, arith}
-use Rattle.doc_model.specs.Past.{Past, no_past}
-use Rattle.desk_model.specs.Idle.{Idle, idle_at}
+use Rattle.edit_model.specs.Past.{Past, no_past}
+use Rattle.round_model.specs.Idle.{Idle, idle_at}
 use Rattle.desk_model.specs.Desk.{State}
 use Rattle.desk.specs.DeskState.{IsDeskState}
 use Rattle.desk.proofs.Numbers.{greatest_number-plain, length_body-bound}

@@ -1,5 +1,5 @@
 use Rattle.std.proofs.Common.{◌∙◌, ap, sym, subst, refl, length, ℕ}
-use Rattle.doc_model.specs.Edit.{first_refusal}
+use Rattle.edit_model.specs.Edit.{first_refusal}
 use Rattle.edit_ops.specs.PlainOps.{IsPlainOp}
 use Rattle.edit_ops.proofs.draft.Draft.refusal.Goals as goal
 

@@ -2,7 +2,7 @@ use Rattle.std.proofs.Common.{◌∙◌, ap, sym, arith, ◌-◌}
 use Rattle.std.specs.Prelude.{slice_get}
 use Rattle.std.specs.Option.{option_copied}
 use Rattle.line_model.specs.declared.job.Job.{Job}
-use Rattle.desk_model.specs.Stops.{full_debt, stop_at}
+use Rattle.round_model.specs.Stops.{full_debt, stop_at}
 use Rattle.idle_queue.specs.FormTest.{is_form_at}
 use Rattle.idle_queue.proofs.PlainPlaces.{few_items}
 use Rattle.idle_queue.proofs.Turns.{live_count}

@@ -1,5 +1,5 @@
 use Rattle.std.proofs.Common.{ap}
-use Rattle.desk_model.specs.Idle.{Idle}
+use Rattle.round_model.specs.Idle.{Idle}
 use Rattle.idle_queue.proofs.PlainPlaces.{few_items}
 use Rattle.idle_queue.proofs.Turns.{read_live, job_kept, job_wanted}
 use Rattle.idle_queue.proofs.agenda.Agenda.job_at.Goals as goal

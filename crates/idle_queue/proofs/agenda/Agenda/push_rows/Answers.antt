@@ -1,5 +1,5 @@
 use Rattle.std.proofs.Common.{ap}
-use Rattle.desk_model.specs.Idle.{Idle, keeps}
+use Rattle.round_model.specs.Idle.{Idle, keeps}
 use Rattle.idle_queue.proofs.PlainPlaces.{few_items}
 use Rattle.idle_queue.proofs.Turns.{read_live}
 use Rattle.idle_queue.proofs.Entering.{never}

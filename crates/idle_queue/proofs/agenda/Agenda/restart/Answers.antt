@@ -1,7 +1,7 @@
 use Rattle.std.proofs.Common.{◌∙◌, ap, sym, subst, refl, map, List, ℕ, length}
 use Rattle.std.specs.Prelude.{if◌then◌else◌}
-use Rattle.desk_model.specs.Idle.{Idle, Live}
-use Rattle.desk_model.specs.Reached.{IsReached}
+use Rattle.round_model.specs.Idle.{Idle, Live}
+use Rattle.round_model.specs.Reached.{IsReached}
 use Rattle.idle_queue.specs.Marked.{marked}
 use Rattle.idle_queue.proofs.Marks.{same_numbers, restart-is, reached_restarted}
 use Rattle.idle_queue.proofs.agenda.Agenda.restart.Goals as goal

@@ -1,7 +1,7 @@
 use Rattle.std.proofs.Common.{◌∙◌, ap, sym, arith, ℕ, Some}
 use Rattle.std.specs.Option.{option_map}
 use Rattle.line_model.specs.declared.job.Stamp.{Stamp}
-use Rattle.desk_model.specs.Idle.{Idle, stamp_of}
+use Rattle.round_model.specs.Idle.{Idle, stamp_of}
 use Rattle.idle_queue.proofs.Publishing.{live_at-items, stamp-zero}
 use Rattle.idle_queue.proofs.agenda.Agenda.stamp.Goals as goal
 

@@ -1,8 +1,8 @@
 use Rattle.std.proofs.Common.{◌∙◌, sym, subst, ap, ℕ, List, map}
 use Rattle.doc_model.specs.Reading.{paragraphs, number_of}
-use Rattle.desk_model.specs.Idle.{Live, Idle}
-use Rattle.desk_model.specs.Reached.{IsReached}
-use Rattle.desk_model.specs.Stops.{full_debt}
+use Rattle.round_model.specs.Idle.{Live, Idle}
+use Rattle.round_model.specs.Reached.{IsReached}
+use Rattle.round_model.specs.Stops.{full_debt}
 use Rattle.idle_queue.proofs.Starts.{fresh, fresh_live, reached_start}
 use Rattle.idle_queue.proofs.agenda.Agenda.start.Goals as goal
 

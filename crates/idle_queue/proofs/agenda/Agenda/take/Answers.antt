@@ -1,7 +1,7 @@
 use Rattle.std.proofs.Common.{◌∙◌, sym, subst, ap, ℕ}
-use Rattle.desk_model.specs.Idle.{Idle}
-use Rattle.desk_model.specs.Reached.{IsReached}
-use Rattle.desk_model.specs.Stops.{stop_at, paragraph_count}
+use Rattle.round_model.specs.Idle.{Idle}
+use Rattle.round_model.specs.Reached.{IsReached}
+use Rattle.round_model.specs.Stops.{stop_at, paragraph_count}
 use Rattle.idle_queue.proofs.Turns.{take-passes, take-other, reached_other}
 use Rattle.idle_queue.proofs.agenda.Agenda.take.Goals as goal
 

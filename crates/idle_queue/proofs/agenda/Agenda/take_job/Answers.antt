@@ -1,6 +1,6 @@
 use Rattle.std.proofs.Common.{◌∙◌, sym, subst, Some, None}
-use Rattle.desk_model.specs.Idle.{Idle}
-use Rattle.desk_model.specs.Reached.{IsReached}
+use Rattle.round_model.specs.Idle.{Idle}
+use Rattle.round_model.specs.Reached.{IsReached}
 use Rattle.idle_queue.proofs.Turns.{take-passes, take-form, reached_formed}
 use Rattle.idle_queue.proofs.agenda.Agenda.take_job.Goals as goal
 

@@ -1,8 +1,8 @@
 use Rattle.std.proofs.Common.{sym, ap, ◌∙◌, List}
 use Rattle.std.specs.List.{list_any}
 use Rattle.line_model.specs.declared.job.Job.{Job}
-use Rattle.desk_model.specs.Keys.{is_same_key}
-use Rattle.desk_model.specs.Idle.{Live, keeps}
+use Rattle.line_model.specs.Keys.{is_same_key}
+use Rattle.round_model.specs.Idle.{Live, keeps}
 use Rattle.idle_queue.proofs.Rows.{keys_of, kept_at}
 use Rattle.idle_queue.proofs.kept.LivePar.keeps.Goals as goal
 

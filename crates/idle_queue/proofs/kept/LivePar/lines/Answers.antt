@@ -2,7 +2,7 @@ use Rattle.std.proofs.Common.{sym, ap, ◌∙◌}
 use Rattle.line_model.specs.declared.job.Job.{Job}
 use Rattle.line_model.specs.declared.key.Key.{Key}
 use Rattle.line_model.specs.Lines.{lines_of}
-use Rattle.desk_model.proofs.KeyLemmas.{is_same_key-true}
+use Rattle.line_model.proofs.KeyLemmas.{is_same_key-true}
 use Rattle.idle_queue.proofs.kept.LivePar.lines.Goals as goal
 
 pub returns-then-is_same_key : goal.returns-then-is_same_key

@@ -1,6 +1,6 @@
 use Rattle.std.proofs.Common.{◌≡◌, false, take}
 use Rattle.std.specs.List.{list_any}
-use Rattle.desk_model.specs.Keys.{is_same_key}
+use Rattle.line_model.specs.Keys.{is_same_key}
 use Rattle.idle_queue.proofs.Rows.{keys_of}
 use Rattle.idle_queue.proofs.kept.LivePar.lines.Given as goal
 

@@ -27,10 +27,10 @@ returns-in_default-clause-after c =
 pub returns : goal.returns
 returns c =
     let found : job_under c.args.name.now c.self.inside.jobs.entries ≡ Some c.in-Some.job.now = sym c.get.ensures.value ∙ ap option_copied c.in-Some.is in
-    let steps : (c.into_reply-reply.result, c.publish.new.self) ≡ step c.self.inside.desk (desk.Publish c.in_ok-formed.formed) =
-    ap (λ (reply : Reply). (reply, c.publish.new.self)) c.into_reply-reply.ensures ∙ c.in_ok-publish.ensures.ok in
-    let made : (reply_words c.into_reply-reply.result, record { state = c.publish.new.self; jobs = c.self.inside.jobs.entries }) ≡ after_command c.args.self.now (script.Publish c.args.name.now) =
-    published_job c.args.self.now c.self.inside.desk c.publish.new.self c.self.inside.jobs.entries c.args.name.now c.in-Some.job.now c.in_ok-formed.formed c.into_reply-reply.result
+    let steps : (c.of_published-reply.result, c.publish.new.self) ≡ step c.self.inside.desk (desk.Publish c.in_ok-formed.formed) =
+    ap (λ (reply : Reply). (reply, c.publish.new.self)) c.of_published-reply.ensures ∙ c.in_ok-publish.ensures.ok in
+    let made : (reply_words c.of_published-reply.result, record { state = c.publish.new.self; jobs = c.self.inside.jobs.entries }) ≡ after_command c.args.self.now (script.Publish c.args.name.now) =
+    published_job c.args.self.now c.self.inside.desk c.publish.new.self c.self.inside.jobs.entries c.args.name.now c.in-Some.job.now c.in_ok-formed.formed c.of_published-reply.result
     c.self.view_is found c.in_ok-formed.ensures steps in
     record {
       printed = subst (λ (answer : List ℕ × Run). OnOk c.push_reply.result (c.push_reply.new.out.items ≡ c.args.text.now.items ++ numbered_words c.args.line answer.0)) made c.push_reply.ensures.ok;

@@ -3,7 +3,7 @@ use Rattle.std.proofs.Common.{◌≡◌, ℕ, List, ap, subst, ◌∙◌}
 use Rattle.std.specs.Str.{bytes_eq}
 use Rattle.indexmap.specs.IndexMap.{insert_entry}
 use Rattle.line_model.specs.declared.job.Job.{Job}
-use Rattle.desk_model.specs.declared.turn.Taken.{Taken}
+use Rattle.round_model.specs.declared.turn.Taken.{Taken}
 use Rattle.desk_model.specs.declared.command.Command.TheVariants as desk
 use Rattle.desk_model.specs.Desk.{step, taken_reply}
 use Rattle.script_run.proofs.Jobs.{took_job}

@@ -1,0 +1,4 @@
+pub mod Rounds
+pub mod Stops
+pub mod Idle
+pub mod Reached

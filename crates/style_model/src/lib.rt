@@ -1,0 +1,2 @@
+//! Styles as definitions: what a style states, what holds where it states nothing, and the dimensions of pages.
+#![tactic(auto)]
