@@ -1,5 +1,5 @@
 -- The steps that take, count and free the turn, and the loads, keep the rule.
-use Rattle.std.proofs.Common.{◌≡◌, ℕ, ◌+◌, ◌%◌, ◌^◌, ◌<◌, ◌≤◌, List, [], ◌∷◌, ◌++◌, length, get_or, set, eqb, All, Option, Some, refl, sym, ap, ◌∙◌, subst, arith, length-set, length-append, eq-eqb, ne_eqb, unwrap_or}
+use Rattle.std.proofs.Common.{◌≡◌, ℕ, ◌+◌, ◌%◌, ◌^◌, ◌<◌, ◌≤◌, List, [], ◌∷◌, ◌++◌, length, get_or, set, eqb, All, Option, Some, refl, sym, ap, ◌∙◌, subst, arith, length-append, eq-eqb, ne_eqb, unwrap_or}
 use Rattle.std.proofs.lemmas.List.Elements.{All-append}
 use mathlib.Core.Logic.{dite}
 use native.Mathlib.Decide.{ℕ_discrete}

@@ -1,4 +1,4 @@
-use Rattle.std.proofs.Common.{arith, ◌≡◌, ◌<◌, ◌≤◌, ◌∷◌, length, Some, refl, sym, ap, ◌∙◌, subst}
+use Rattle.std.proofs.Common.{arith, ◌≡◌, ◌≤◌, ◌∷◌, length, Some, refl, sym, ap, ◌∙◌, subst}
 use Rattle.turn_lock.specs.Numbers.{Gains}
 use Rattle.turn_lock.proofs.Sitting.{same_terms}
 use Rattle.turn_lock.proofs.Gaining.{gains_itself}
