@@ -24,12 +24,6 @@ module _ {A : Type 0} where
       ends (inl e) = inl e
       ends (inr p) = inr (ap suc p.0, p.1)
 
-  -- a list of one element, after a write
-  pub only_one : (l : List A) (a : A) → length l ≡ 1 → set l 0 a ≡ a ∷ []
-  only_one [] a e = absurd (omega arith)
-  only_one (x ∷ []) a e = refl
-  only_one (x ∷ (y ∷ ys)) a e = absurd (omega arith)
-
   pub first_empty : (xs ys : List A) → xs ++ ys ≡ [] → xs ≡ []
   first_empty [] ys e = refl
   first_empty (x ∷ xs) ys e = cc

@@ -74,7 +74,6 @@ module _ {M C R S : Type 0} (g : Ghosts M C R S) (t : Terms M C R S) where
     turn = 0;
     narrow = (narrow, few);
     words = refl;
-    deep = refl;
     within = omega arith;
     legal = tt;
     callers = λ k d l. absurd (omega arith);
@@ -105,7 +104,6 @@ module _ {M C R S : Type 0} (g : Ghosts M C R S) (t : Terms M C R S) where
         turn = r.turn;
         narrow = r.narrow;
         words = r.words;
-        deep = r.deep;
         within = r.within;
         legal = r.legal;
         callers = r.callers;
@@ -132,7 +130,7 @@ module _ {M C R S : Type 0} (g : Ghosts M C R S) (t : Terms M C R S) where
             })
             (at_end (set s.views id left) right d j at');
         free = r.free;
-        held = λ l. let x = r.held l in (x.0, x.1, at_longer (set s.views id left) (right ∷ []) x.0 x.1 (set_else s.views id x.0 left (held_else t r.turn s.views id v at idle x) ∙ x.2), x.3, x.4, x.5);
+        held = λ l. let x = (r.held l).0 in ((x.0, x.1, at_longer (set s.views id left) (right ∷ []) x.0 x.1 (set_else s.views id x.0 left (held_else t r.turn s.views id v at idle x) ∙ x.2), x.3, x.4, x.5), (r.held l).1);
       }
     where
       smaller : (v : V) (n : ℕ) → Has (giving_view v).known n → Has v.known n
@@ -162,7 +160,6 @@ module _ {M C R S : Type 0} (g : Ghosts M C R S) (t : Terms M C R S) where
         turn = r.turn;
         narrow = r.narrow;
         words = r.words;
-        deep = r.deep;
         within = r.within;
         legal = r.legal;
         callers = r.callers;
@@ -189,8 +186,8 @@ module _ {M C R S : Type 0} (g : Ghosts M C R S) (t : Terms M C R S) where
             (λ i x _ there' not_other' z of''. renames t r.history r.owner r.kind r.turn i owner' kind' x (λ n e. (keeps_owner n i e not_other', keeps_kind n i e not_other')) (r.each i x there' z of''))
             j d at' not_other);
         free = r.free;
-        held = λ more. let x = r.held more in let not_me = held_else t r.turn s.views id v at idle x in let not_them = held_else t r.turn s.views other w at_other idle_other x in
-            (x.0, x.1, set_else (set s.views id both') other x.0 spent_view not_them ∙ (set_else s.views id x.0 both' not_me ∙ x.2), x.3, x.4, x.5);
+        held = λ more. let x = (r.held more).0 in let not_me = held_else t r.turn s.views id v at idle x in let not_them = held_else t r.turn s.views other w at_other idle_other x in
+            ((x.0, x.1, set_else (set s.views id both') other x.0 spent_view not_them ∙ (set_else s.views id x.0 both' not_me ∙ x.2), x.3, x.4, x.5), (r.held more).1);
       }
     where
       is_none : (z : Terms M C R S) → None ≡ Some z → ⊥
@@ -219,7 +216,7 @@ module _ {M C R S : Type 0} (g : Ghosts M C R S) (t : Terms M C R S) where
   closes id v words slots of rests every (s, seen, same_words, size, values) =
       let r = seen.0 in let at = seen.1 in let mine = r.each id v at t of in let idle = not_resting t v.stage rests in
       let is_free : r.turn ≡ 0 = dite (ℕ_discrete r.turn 0) (λ e. e)
-      (λ e. let x = r.held (omega arith) in let theirs = r.each x.0 x.1 x.2 t x.3 in let low = theirs.own.2 in
+      (λ e. let x = (r.held (omega arith)).0 in let theirs = r.each x.0 x.1 x.2 t x.3 in let low = theirs.own.2 in
       absurd (held_else t r.turn s.views id v at idle x (sym theirs.own.0 ∙ owns t r.history r.owner r.kind r.turn id v mine x.1.known.number (every x.1.known.number low)))) in
       let home = r.free is_free in let more = mine.gains.0 in let split : r.history ≡ v.known.seen ++ more = mine.gains.1 in
       let few : All (λ (e : Entry M C R S). e.caller < t.seats) (v.known.seen ++ more) = subst (All (λ (e : Entry M C R S). e.caller < t.seats)) split r.callers in

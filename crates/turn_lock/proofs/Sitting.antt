@@ -1,5 +1,5 @@
 -- The rule's parts under a step of one seat.
-use Rattle.std.proofs.Common.{◌≡◌, ◌≢◌, ℕ, ◌+◌, ◌<◌, List, set, Option, Some, sym, ap, ◌∙◌, subst, inl, inr, ⊎_elim, unwrap_or}
+use Rattle.std.proofs.Common.{◌≡◌, ◌≢◌, ℕ, ◌+◌, ◌<◌, List, set, Option, Some, sym, ap, ◌∙◌, subst, arith, inl, inr, ⊎_elim, unwrap_or}
 use mathlib.Core.Option.{some, some-injective}
 use lib.ListN.{get_elem?}
 use Rattle.atomic_table.proofs.Lists.{at_set, set_else}
@@ -9,7 +9,7 @@ use Rattle.turn_lock.specs.declared.view.Known.{Known}
 use Rattle.turn_lock.specs.declared.view.View.{View}
 use Rattle.turn_lock.specs.declared.view.Stage.{Stage}
 use Rattle.turn_lock.specs.declared.view.Stage.TheVariants.{Resting, Holding, Counted, Met}
-use Rattle.turn_lock.specs.Numbers.{Has, Gains}
+use Rattle.turn_lock.specs.Numbers.{Has, IsApart, Gains}
 use Rattle.turn_lock.specs.Rule.{HasTurn, AtStage, Sits, Held}
 
 module _ {M C R S : Type 0} (t : Terms M C R S) where
@@ -48,6 +48,13 @@ module _ {M C R S : Type 0} (t : Terms M C R S) where
     at_turn k Holding _ a = a
     at_turn k Counted _ a = a
     at_turn k (Met a b) idle x = absurd idle
+
+    -- its own number is none of its others
+    pub own_apart : (d : V) → Sits t h owner kind turn j d → IsApart d.known d.known.number
+    own_apart d s = record {
+      ungiven = λ u. let p : 0 ≡ 1 = sym s.own.1 ∙ (s.yet d.known.number u).1 in absurd (omega arith);
+      joined = λ c. let p : 0 ≡ 2 = sym s.own.1 ∙ (s.joined d.known.number c).1 in absurd (omega arith);
+    }
 
     pub turn_of : (d : V) → Sits t h owner kind turn j d → HasTurn d.stage → turn ≡ d.known.number + 1
     turn_of d s has = (at_turn d.known d.stage has s.stage).0

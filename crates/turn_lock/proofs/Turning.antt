@@ -1,5 +1,5 @@
 -- The steps that take, count and free the turn, and the loads, keep the rule.
-use Rattle.std.proofs.Common.{◌≡◌, ℕ, ◌+◌, ◌%◌, ◌^◌, ◌<◌, ◌≤◌, List, [], ◌∷◌, ◌++◌, length, get_or, set, eqb, All, Option, Some, refl, sym, ap, ◌∙◌, subst, arith, length-set, length-append, eq-eqb, ne_eqb, unwrap_or}
+use Rattle.std.proofs.Common.{◌≡◌, ℕ, ◌+◌, ◌%◌, ◌^◌, ◌<◌, ◌≤◌, List, [], ◌∷◌, ◌++◌, length, get_or, set, eqb, All, Option, Some, refl, sym, ap, ◌∙◌, subst, arith, length-append, eq-eqb, ne_eqb, unwrap_or}
 use Rattle.std.proofs.lemmas.List.Elements.{All-append}
 use mathlib.Core.Logic.{dite}
 use native.Mathlib.Decide.{ℕ_discrete}
@@ -19,9 +19,9 @@ use Rattle.turn_lock.specs.History.{entry, state_after, calls_of, IsLegal}
 use Rattle.turn_lock.specs.Numbers.{Has, Gains}
 use Rattle.turn_lock.specs.Rule.{HasTurn, AtStage, Sits, Kept}
 use Rattle.turn_lock.specs.Plays.{Saw, seeing, tried, took, counted, freed, loaded, compared}
-use Rattle.turn_lock.proofs.Histories.{set_there, only_one, all_one, legal_snoc, not_of, of_both}
+use Rattle.turn_lock.proofs.Histories.{set_there, all_one, legal_snoc, not_of, of_both}
 use Rattle.turn_lock.proofs.Gaining.{gains_itself, gains_more, gains_longer}
-use Rattle.turn_lock.proofs.Sitting.{seats, same_terms, at_turn, turn_of, moves, not_resting, not_met, held_else, held_by_other}
+use Rattle.turn_lock.proofs.Sitting.{seats, same_terms, own_apart, at_turn, turn_of, moves, not_resting, not_met, held_else, held_by_other}
 
 module _ {M C R S : Type 0} (g : Ghosts M C R S) (t : Terms M C R S) where
   abbrev V : Type 0
@@ -70,14 +70,13 @@ module _ {M C R S : Type 0} (g : Ghosts M C R S) (t : Terms M C R S) where
     turn = r.turn;
     narrow = r.narrow;
     words = set-get_or s.words i 0 ∙ r.words;
-    deep = r.deep;
     within = r.within;
     legal = r.legal;
     callers = r.callers;
     ungiven = r.ungiven;
     each = seats t (λ j d. (u : Terms M C R S) → d.terms ≡ Some u → SitsIn s r j d) s.views id w (λ u _. mine) (λ j d _. r.each j d);
     free = r.free;
-    held = λ l. held_by_other t r.turn s.views id v w at idle (r.held l);
+    held = λ l. let x = r.held l in (held_by_other t r.turn s.views id v w at idle x.0, x.1);
   }
 
   -- the history does not change
@@ -99,7 +98,6 @@ module _ {M C R S : Type 0} (g : Ghosts M C R S) (t : Terms M C R S) where
         turn = number + 1;
         narrow = r.narrow;
         words = ap (λ ws. set ws 1 (number + 1)) r.words;
-        deep = length-set s.homes 0 none ∙ r.deep;
         within = r.within;
         legal = r.legal;
         callers = r.callers;
@@ -117,7 +115,7 @@ module _ {M C R S : Type 0} (g : Ghosts M C R S) (t : Terms M C R S) where
             moves t r.history r.owner r.kind r.turn j r.history r.owner r.kind (number + 1) d
             (λ has. let e : r.turn ≡ d.known.number + 1 = turn_of t r.history r.owner r.kind r.turn j d theirs has in absurd (omega arith)) (stays j r.owner r.history) (λ n e. (e, refl)) theirs);
         free = λ e. absurd (omega arith);
-        held = λ _. (id, w, set_there s.views id me.0 w at, of, tt, ap (λ n. n + 1) is);
+        held = λ _. ((id, w, set_there s.views id me.0 w at, of, tt, ap (λ n. n + 1) is), ap (λ hs. set hs 0 none) home.1);
       },
       ap (λ hs. get_elem? hs 0) home.1,
       home.2,
@@ -142,7 +140,7 @@ module _ {M C R S : Type 0} (g : Ghosts M C R S) (t : Terms M C R S) where
             λ some_has. absurd (some_has none_has),
           ),
         ))
-        (λ some_has. let w : V = tried me.0 n in let idle = not_resting t me.0.stage rests in let x = r.held (omega arith) in let theirs = r.each x.0 x.1 x.2 t x.3 in (
+        (λ some_has. let w : V = tried me.0 n in let idle = not_resting t me.0.stage rests in let x = (r.held (omega arith)).0 in let theirs = r.each x.0 x.1 x.2 t x.3 in (
           w,
           keeps,
           tt,
@@ -174,7 +172,6 @@ module _ {M C R S : Type 0} (g : Ghosts M C R S) (t : Terms M C R S) where
           turn = r.turn;
           narrow = r.narrow;
           words = ap (λ ws. set ws 0 ((n + 1) % 18446744073709551616)) r.words ∙ ap (λ x. x ∷ r.turn ∷ []) one_more;
-          deep = r.deep;
           within = omega arith;
           legal = legal;
           callers = back (All (λ (x : Entry M C R S). x.caller < t.seats)) (All-append (λ (x : Entry M C R S). x.caller < t.seats) r.history (e ∷ []) r.callers (all_one (λ (x : Entry M C R S). x.caller < t.seats) e mine.own.2));
@@ -195,7 +192,7 @@ module _ {M C R S : Type 0} (g : Ghosts M C R S) (t : Terms M C R S) where
               (λ l x its. back (Gains l) (gains_more l r.history (e ∷ []) x (λ m has. not_of m e (λ z. other (sym (its m has) ∙ (ap r.owner (sym z) ∙ mine.own.0))))))
               (λ m z. (z, refl)) theirs);
           free = λ z. let f = stage.0 in absurd (omega arith);
-          held = λ _. (id, w, set_there s.views id me.0 w at, of, tt, stage.0);
+          held = λ more. ((id, w, set_there s.views id me.0 w at, of, tt, stage.0), (r.held more).1);
         } in (
           w,
           keeps,
@@ -208,7 +205,8 @@ module _ {M C R S : Type 0} (g : Ghosts M C R S) (t : Terms M C R S) where
     pub frees : (b : B) → HasTurn me.0.stage → me.1 ≡ (0, Some b) ∷ [] → b.journal.items ≡ me.0.known.seen → b.start.value ≡ t.start.value → Allows Rule slots id me 1 (λ _. 0) (λ _. freed me 0)
     frees b has carried same_journal same_start s r deep at fits =
         let k : Known M C R S = me.0.known in let mine = sits s r at in let stage = at_turn t r.history r.owner r.kind r.turn id k me.0.stage has mine.stage in
-        let w : V = record me.0 { stage = Resting } in let full : put_back s.homes me.1 ≡ some (Some b) ∷ [] = ap (put_back s.homes) carried ∙ only_one s.homes (some (Some b)) r.deep in (
+        let w : V = record me.0 { stage = Resting } in let f : r.turn ≡ k.number + 1 = stage.0 in let out : s.homes ≡ none ∷ [] = (r.held (omega arith)).1 in
+        let full : put_back s.homes me.1 ≡ some (Some b) ∷ [] = λ i. put_back (out i) (carried i) in (
           w,
           gives,
           tt,
@@ -219,7 +217,6 @@ module _ {M C R S : Type 0} (g : Ghosts M C R S) (t : Terms M C R S) where
             turn = 0;
             narrow = r.narrow;
             words = ap (λ ws. set ws 1 0) r.words;
-            deep = ap length full;
             within = r.within;
             legal = r.legal;
             callers = r.callers;
@@ -263,6 +260,7 @@ module _ {M C R S : Type 0} (g : Ghosts M C R S) (t : Terms M C R S) where
         refl,
         λ x y is. let p = subst (AtStage t r.history r.owner r.kind r.turn id me.0.known) is mine.stage in let q = gains_longer x y r.history p.0.0 p.1.0 in
             subst (λ (h : H). Gains x h × Gains y h) (sym p.2) q,
+        own_apart t r.history r.owner r.kind r.turn id me.0 mine,
       ),
     )
 

@@ -18,6 +18,11 @@ module _ {M C R S : Type 0} where
   abbrev pub Has : Known M C R S → ℕ → Type 0
   Has k n = (n ≡ k.number) ⊎ (IsUngiven k n ⊎ Contains k.joined n)
 
+  -- the number is neither one that the seat has yet to give nor one that was joined to it
+  pub record IsApart (k : Known M C R S) (n : ℕ) : Type 0 where
+    pub ungiven : ¬ IsUngiven k n
+    pub joined : ¬ Contains k.joined n
+
   -- all numbers of a seat
   abbrev pub numbers_of : Known M C R S → List ℕ
   numbers_of k = k.number ∷ (one_to k.left ++ k.joined)

@@ -14,7 +14,7 @@ use Rattle.turn_lock.specs.declared.view.Stage.TheVariants.{Resting, Holding, Co
 use Rattle.turn_lock.specs.declared.fault.CallFault.{CallFault}
 use Rattle.turn_lock.specs.declared.fault.CallFault.TheVariants.{JournalFull, NoMemory}
 use Rattle.turn_lock.specs.History.{IsLegal}
-use Rattle.turn_lock.specs.Numbers.{Gains}
+use Rattle.turn_lock.specs.Numbers.{IsApart, Gains}
 
 module _ {M C R S : Type 0} where
   -- what a seat learns of the history that it sees: it is legal, and no longer than the limit
@@ -70,6 +70,7 @@ module _ {M C R S : Type 0} {g : Ghosts M C R S} where
   loaded m n m' = (h : List (Entry M C R S)) × (m' ≡ (seeing m.0 h Resting, m.1)) × Gains m.0.known h × (n ≡ length h)
       × ((t : Terms M C R S) → m.0.terms ≡ Some t → Saw g t m'.0.known)
 
-  -- what each of two joined seats has seen begins the one history that was kept
+  -- what each of two joined seats has seen begins the one history that was kept, and the seat's own number is none of its others
   abbrev pub compared : Me (Option (Book M C R S g)) (View M C R S) → ℕ → Me (Option (Book M C R S g)) (View M C R S) → Type 0
   compared m n m' = (m' ≡ (record m.0 { stage = Resting }, m.1)) × ((a b : Known M C R S) → m.0.stage ≡ Met a b → Gains a m.0.known.seen × Gains b m.0.known.seen)
+      × IsApart m.0.known m.0.known.number

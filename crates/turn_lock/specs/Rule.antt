@@ -78,7 +78,11 @@ module _ {M C R S : Type 0} {g : Ghosts M C R S} where
   abbrev pub Home : Terms M C R S → List (Entry M C R S) → List (maybe.Option (Option (Book M C R S g))) → Type 0
   Home t history homes = (b : Book M C R S g) × (homes ≡ maybe.some (Some b) ∷ []) × (b.journal.items ≡ history) × (b.start.value ≡ t.start.value)
 
-  -- there is one legal history, of which each seat has seen a beginning
+  -- the slot is empty: the seat that has the turn has the machine
+  abbrev pub IsOut : List (maybe.Option (Option (Book M C R S g))) → Type 0
+  IsOut homes = homes ≡ maybe.none ∷ []
+
+  -- there is one legal history, of which each seat has seen a beginning; the machine is at home where the turn is free, and else out
   pub record Kept (t : Terms M C R S) (s : State (Option (Book M C R S g)) (View M C R S)) : Type 0 where
     pub history : List (Entry M C R S)
     pub owner : ℕ → ℕ
@@ -86,11 +90,10 @@ module _ {M C R S : Type 0} {g : Ghosts M C R S} where
     pub turn : ℕ
     pub narrow : (t.limit < 2 ^ 32) × (t.seats < 2 ^ 32)
     pub words : s.words ≡ length history ∷ turn ∷ []
-    pub deep : length s.homes ≡ 1
     pub within : length history ≤ t.limit
     pub legal : IsLegal g.reply g.after (g.state t.start.value) history
     pub callers : All (λ e. e.caller < t.seats) history
     pub ungiven : (n : ℕ) → kind n ≡ 1 → calls_of n history ≡ []
     pub each : (id : ℕ) (v : View M C R S) → get_elem? s.views id ≡ maybe.some v → (u : Terms M C R S) → v.terms ≡ Some u → Sits t history owner kind turn id v
     pub free : turn ≡ 0 → Home t history s.homes
-    pub held : 0 < turn → Held t turn s.views
+    pub held : 0 < turn → Held t turn s.views × IsOut s.homes

@@ -70,13 +70,17 @@ module _ {M C R S : Type 0} {g : Ghosts M C R S} where
   abbrev pub closed_id : Booked M C R S g → TableId
   closed_id booked = booked.seat.value.pass.table_id
 
+  -- where the seat tried for the turn, the last try found it free
+  abbrev pub HadTurn : Seat M C R S g → Seat M C R S g → Type 0
+  HadTurn old new = tries old < tries new → last_read new ≡ 0
+
   -- why a call that waits is refused
   abbrev pub CallCause : TurnLock M C R S g → Seat M C R S g → Seat M C R S g → CallFault → Type 0
   CallCause lock old new (call.JournalFull n) = (n ≡ limit_of lock) × (length (seen new) ≡ limit_of lock) × (tries old < tries new) × (last_read new ≡ 0)
-  CallCause lock old new call.NoMemory = Unit {0}
+  CallCause lock old new call.NoMemory = HadTurn old new
 
   -- why a call that does not wait is refused
   abbrev pub TryCause : TurnLock M C R S g → Seat M C R S g → Seat M C R S g → TryFault → Type 0
   TryCause lock old new (try.JournalFull n) = (n ≡ limit_of lock) × (length (seen new) ≡ limit_of lock) × (tries new ≡ tries old + 1) × (last_read new ≡ 0)
   TryCause lock old new (try.Held n) = (tries new ≡ tries old + 1) × (last_read new ≡ n) × (n ≢ 0) × (n ≢ (known old).number + 1)
-  TryCause lock old new try.NoMemory = Unit {0}
+  TryCause lock old new try.NoMemory = HadTurn old new

@@ -1,6 +1,7 @@
 //! What a caller calls with.
 ghost use Rattle.std.specs.Prelude.{◌≡◌, ℕ, ◌<◌, ◌≤◌, [], length, Some};
 ghost use Rattle.turn_lock.specs.History.{calls_of};
+ghost use Rattle.turn_lock.specs.Numbers.{IsApart};
 ghost use Rattle.turn_lock.specs.declared.view.Stage.TheVariants.{Resting};
 
 use crate::machine::Machine;
@@ -15,8 +16,8 @@ pub struct Seat<M: Machine> {
     pub(crate) left: u32,
     ghost numbers: { (number ≡ pass.me.0.known.number) × (left ≡ pass.me.0.known.left) },
     ghost rests: { (pass.me.0.stage ≡ Resting) × (pass.me.1 ≡ []) },
-    /// Its own number is none of those that it has yet to give.
-    ghost apart: { 0 < left → number ≡ 0 },
+    /// Its own number is none of those that it has yet to give, and none of those that were joined to it.
+    ghost apart: { IsApart pass.me.0.known pass.me.0.known.number },
     /// It has seen no more entries than the lock's limit.
     ghost within: { (t : _) → pass.me.0.terms ≡ Some t → length pass.me.0.known.seen ≤ t.limit },
     /// No entry has a number that the seat has yet to give.

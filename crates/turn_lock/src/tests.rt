@@ -42,8 +42,8 @@ impl Machine for Tally {
 }
 
 #[test]
-fn two_seats_make_one_journal(rt: HostRuntime) -> Result<(), Fail> {
-    let (lock, mut first) = TurnLock::new(rt.alloc(), Tally { total: 5 }, 2, 10)?;
+fn two_seats_fill_one_journal(rt: HostRuntime) -> Result<(), Fail> {
+    let (lock, mut first) = TurnLock::new(rt.alloc(), Tally { total: 5 }, 2, 2)?;
     let entry = lock.call(&rt, &mut first, &3)?;
     assert_eq!(rt;
         (entry.number, entry.caller, entry.cmd, entry.reply),
@@ -56,33 +56,20 @@ fn two_seats_make_one_journal(rt: HostRuntime) -> Result<(), Fail> {
         (entry.number, entry.caller, entry.cmd, entry.reply),
         (2, 1, 4, 8)
     );
-    assert_eq!(rt; lock.count(&mut second), 2);
-    lock.join(&mut first, second);
-    let booked = lock.close(first);
-    assert_eq!(rt; booked.machine().total, 12);
-    assert_eq!(rt; booked.journal().len(), 2);
-    let last = &booked.journal()[1];
-    assert_eq!(rt;
-        (last.number, last.caller, last.cmd, last.reply),
-        (2, 1, 4, 8)
+    assert!(rt; is_full(&lock.call(&rt, &mut second, &1)));
+    assert!(rt;
+        matches!(
+            lock.try_call(&mut second, &1),
+            Err(TryFault::JournalFull(2))
+        )
     );
+    assert_eq!(rt; lock.count(&mut second), 2);
     Ok(())
 }
 
-#[test]
-fn a_full_journal_refuses_and_keeps_the_machine(rt: HostRuntime) -> Result<(), Fail> {
-    let (lock, mut seat) = TurnLock::new(rt.alloc(), Tally { total: 0 }, 1, 1)?;
-    lock.call(&rt, &mut seat, &7)?;
-    assert!(rt;
-        matches!(
-            lock.call(&rt, &mut seat, &1),
-            Err(CallFault::JournalFull(1))
-        )
-    );
-    assert!(rt; matches!(lock.try_call(&mut seat, &1), Err(TryFault::JournalFull(1))));
-    let booked = lock.close(seat);
-    assert_eq!(rt; (booked.machine().total, booked.journal().len()), (7, 1));
-    Ok(())
+/// Whether a journal of two entries refused the call.
+fn is_full(answer: &Result<Entry<Tally>, CallFault>) -> bool {
+    matches!(answer, Err(CallFault::JournalFull(2)))
 }
 
 /// What a machine that waits shares with the thread that it waits for.
@@ -93,7 +80,7 @@ struct Signals {
     gave_up: AtomicBool,
 }
 
-/// A machine whose step waits for a signal, for so many turns of its loop.
+/// A machine whose step waits for a signal, for so many turns of its loop, and then lets other threads go first.
 #[derive(Drop)]
 struct Patient {
     signals: Arc<Signals, Global>,
@@ -120,6 +107,9 @@ impl Machine for Patient {
         self.signals.entered.store(true, SeqCst);
         for _ in 0..100_000_000u64 {
             if self.signals.go.load(SeqCst) {
+                for _ in 0..10_000 {
+                    yield_now();
+                }
                 return Ok((*cmd, *cmd));
             }
         }
@@ -128,8 +118,13 @@ impl Machine for Patient {
     }
 }
 
-/// Tries once while the other seat's step waits, and lets it go.
-fn knock(lock: &TurnLock<Patient>, mut seat: Seat<Patient>, signals: &Signals) -> bool
+/// Tries once while the other seat's step waits, lets it go, and calls while that seat still has the turn.
+fn knock<R: Wait>(
+    rt: &R,
+    lock: &TurnLock<Patient>,
+    mut seat: Seat<Patient>,
+    signals: &Signals,
+) -> (bool, u32)
     requires { IsOf lock.now seat }
 {
     for _ in 0..100_000_000u64 {
@@ -139,11 +134,39 @@ fn knock(lock: &TurnLock<Patient>, mut seat: Seat<Patient>, signals: &Signals) -
     }
     let held = matches!(lock.try_call(&mut seat, &2), Err(TryFault::Held(1)));
     signals.go.store(true, SeqCst);
-    held
+    (held, number_of(lock.call(rt, &mut seat, &2)))
+}
+
+/// Calls once, and answers the entry's number.
+fn call_one<R: Wait>(rt: &R, lock: &TurnLock<Patient>, mut seat: Seat<Patient>) -> u32
+    requires { IsOf lock.now seat }
+{
+    number_of(lock.call(rt, &mut seat, &1))
+}
+
+/// One seat calls, and the other knocks at it.
+fn both_call<R: Threads + Wait + Sync>(
+    rt: &R,
+    lock: &TurnLock<Patient>,
+    first: Seat<Patient>,
+    second: Seat<Patient>,
+    signals: &Signals,
+) -> ((bool, u32), u32)
+    requires { IsOf lock.now first × IsOf lock.now second }
+{
+    join(
+        rt,
+        || -> (bool, u32)
+            requires { IsOf lock.now second }
+        { knock(rt, lock, second, signals) },
+        || -> u32
+            requires { IsOf lock.now first }
+        { call_one(rt, lock, first) },
+    )
 }
 
 #[test]
-fn a_try_finds_the_holder_while_its_step_waits(rt: HostRuntime) -> Result<(), Fail> {
+fn a_held_turn_is_found_by_a_try_and_waited_for_by_a_call(rt: HostRuntime) -> Result<(), Fail> {
     let signals = Arc::new(
         rt.alloc(),
         Signals {
@@ -157,13 +180,9 @@ fn a_try_finds_the_holder_while_its_step_waits(rt: HostRuntime) -> Result<(), Fa
     };
     let (lock, mut first) = TurnLock::new(rt.alloc(), machine, 2, 10)?;
     let second = lock.split(&mut first);
-    let (held, number) = join(
-        &rt,
-        || knock(&lock, second, &signals),
-        || number_of(lock.call(&rt, &mut first, &1)),
-    );
+    let ((held, later), number) = both_call(&rt, &lock, first, second, &signals);
     assert!(rt; held);
-    assert_eq!(rt; number, 1);
+    assert_eq!(rt; (number, later), (1, 2));
     assert!(rt; !signals.gave_up.load(SeqCst));
     Ok(())
 }
@@ -178,14 +197,17 @@ fn number_of(answer: Result<Entry<Patient>, CallFault>) -> u32 {
 
 const CALLS: u64 = 1000;
 
-/// Adds the numbers below `CALLS`, each with the caller's mark.
+/// Adds the numbers below `CALLS`, each with the caller's mark: by a try, and where the turn is held by a call.
 fn add_all<R: Wait>(rt: &R, lock: &TurnLock<Tally>, mut seat: Seat<Tally>) -> Seat<Tally>
     requires { IsOf lock.now seat }
     ensures { IsOf lock.now result × SameNumbers (known seat) (known result) }
 {
     let mark = u64::from(seat.number());
     for n in 0..CALLS {
-        let _ = lock.call(rt, &mut seat, &(mark * 1_000_000 + n));
+        let marked = mark * 1_000_000 + n;
+        if let Err(TryFault::Held(_)) = lock.try_call(&mut seat, &marked) {
+            let _ = lock.call(rt, &mut seat, &marked);
+        }
     }
     seat
 }
@@ -214,8 +236,10 @@ fn add_both<R: Threads + Wait + Sync>(
     )
 }
 
-/// Whether the journal has each caller's calls once and in order, and each reply is the total before it.
-fn is_whole(journal: &[Entry<Tally>]) -> bool {
+/// Whether the journal has each caller's calls once and in order, each reply is the total before it, and the machine has
+/// the last one.
+fn is_whole(booked: &Booked<Tally>) -> bool {
+    let journal = booked.journal();
     let mut total = 0u64;
     let mut next = [0u64; 4];
     for (at, entry) in journal.iter().enumerate() {
@@ -229,7 +253,7 @@ fn is_whole(journal: &[Entry<Tally>]) -> bool {
         next[caller] = next[caller].wrapping_add(1);
         total = total.wrapping_add(entry.cmd);
     }
-    journal.len() as u64 == 4 * CALLS
+    booked.machine().total == total && journal.len() as u64 == 4 * CALLS
 }
 
 /// Joins four seats and closes the lock.
@@ -261,6 +285,6 @@ fn four_threads_make_one_history(rt: HostRuntime) -> Result<(), Fail> {
         || add_both(&rt, &lock, two, three),
     );
     let booked = close_all(lock, zero, one, two, three);
-    assert!(rt; is_whole(booked.journal()));
+    assert!(rt; is_whole(&booked));
     Ok(())
 }

@@ -1,5 +1,5 @@
 -- The two lists of groups of primitives, and what a step does to them.
-use Rattle.std.specs.Prelude.{◌≡◌, ℕ, ◌-◌, ◌≤◌, List, [], ◌∷◌, ◌++◌, drop, length}
+use Rattle.std.specs.Prelude.{◌≡◌, ℕ, ◌+◌, ◌-◌, ◌≤◌, List, [], ◌∷◌, ◌++◌, drop, length}
 use Rattle.undo_groups.specs.declared.way.Way.{Way}
 use Rattle.undo_groups.specs.declared.way.Way.TheVariants.{Run, Undo, Redo}
 use Rattle.undo_groups.specs.declared.way.TheConstants.{MOST_GROUPS}
@@ -28,6 +28,10 @@ Moves Run prims kept old new = (new.earlier ≡ newest MOST_GROUPS (old.earlier 
 Moves Undo prims kept old new = (old.earlier ≡ new.earlier ++ prims ∷ []) × (new.undone ≡ old.undone ++ kept ∷ [])
 -- a redo is the converse
 Moves Redo prims kept old new = (old.undone ≡ new.undone ++ prims ∷ []) × (new.earlier ≡ old.earlier ++ kept ∷ [])
+
+-- The two lists together have no more than the most groups.
+abbrev pub IsFew : {P : Type 0} → Lists P → Type 0
+IsFew lists = length lists.earlier + length lists.undone ≤ MOST_GROUPS
 
 -- Both lists have room for the most groups, and no more than so many stand in the two together.
 pub record HasRoom (count room_earlier room_undone : ℕ) : Type 0 where

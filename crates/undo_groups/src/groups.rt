@@ -1,7 +1,7 @@
 //! The lists of groups behind undo and redo.
 ghost use Rattle.std.specs.Prelude.{◌≡◌, ℕ, ◌<◌, ◌^◌, ◌↔◌, List, [], length, fold, IfOk, OnOk, OnErr};
 ghost use Rattle.undo_groups.specs.Expansion.{expanded, AnswersGroup};
-ghost use Rattle.undo_groups.specs.Lists.{Moves, IsNext};
+ghost use Rattle.undo_groups.specs.Lists.{Moves, IsNext, IsFew};
 ghost use Rattle.undo_groups.specs.Past.{AreOf, Steps, past_of};
 ghost use Rattle.undo_groups.specs.Step.{IsReadyFor, Applies};
 
@@ -49,6 +49,7 @@ impl<T: Invertible> Groups<T> {
     pub fn new(alloc: Global) -> Result<Groups<T>, AllocError>
         ensures empty { IfOk result (λ groups. (groups.earlier ≡ []) × (groups.undone ≡ [])) }
         ensures of_any { IfOk result (λ groups. (v : T.Value) → AreOf T.meaning v groups) }
+        ensures few { IfOk result IsFew }
     {
         Ok(Groups {
             earlier: VecDeque::with_capacity(alloc, MOST_GROUPS)?,
@@ -62,7 +63,7 @@ impl<T: Invertible> Groups<T> {
     /// The group is refused with the first operation that is refused there, and its place from 0. Else one group is
     /// kept of it, the oldest of 257 is dropped, and nothing is left to redo.
     pub fn run_group(&mut self, target: &mut T, ops: &[T::Op]) -> Result<(), GroupFault<T::Why>>
-        requires few { length ops.now < 2 ^ 32 }
+        requires countable { length ops.now < 2 ^ 32 }
         requires of_target { AreOf T.meaning (T.value target.old) self.old }
 
         ensures answer { AnswersGroup (expanded T.expansion T.after target.old ops.now) result }
@@ -72,6 +73,7 @@ impl<T: Invertible> Groups<T> {
 
         ensures past { OnOk result (Steps Way.Run (past_of T.meaning (T.value target.old) self.old) (past_of T.meaning (T.value target.new) self.new)) }
         ensures of_target { AreOf T.meaning (T.value target.new) self.new }
+        ensures few { IsFew self.new }
     {
         let ready = self.ready_group(target, ops)?;
         self.commit(target, ready);
@@ -89,6 +91,7 @@ impl<T: Invertible> Groups<T> {
 
         ensures past { OnOk result (Steps Way.Undo (past_of T.meaning (T.value target.old) self.old) (past_of T.meaning (T.value target.new) self.new)) }
         ensures of_target { AreOf T.meaning (T.value target.new) self.new }
+        ensures few { IsFew self.new }
     {
         let ready = self.ready_undo(target)?;
         self.commit(target, ready);
@@ -106,6 +109,7 @@ impl<T: Invertible> Groups<T> {
 
         ensures past { OnOk result (Steps Way.Redo (past_of T.meaning (T.value target.old) self.old) (past_of T.meaning (T.value target.new) self.new)) }
         ensures of_target { AreOf T.meaning (T.value target.new) self.new }
+        ensures few { IsFew self.new }
     {
         let ready = self.ready_redo(target)?;
         self.commit(target, ready);
@@ -120,6 +124,7 @@ impl<T: Invertible> Groups<T> {
         ensures way { IfOk result (λ ready. ready.way ≡ Way.Run) }
         ensures prims { IfOk result (λ ready. expanded T.expansion T.after target.now ops.now ≡ Ok ready.prims) }
         ensures ready { IfOk result (λ ready. IsReadyFor T.after T.value T.meaning target.now self.now ready) }
+        ensures few { IsFew self.now }
     {
         Ready::of_group(self.alloc, target, ops)
     }
@@ -131,6 +136,7 @@ impl<T: Invertible> Groups<T> {
         ensures nothing { (result ≡ Err UndoFault.NothingToUndo) ↔ (self.now.earlier ≡ []) }
         ensures way { IfOk result (λ ready. ready.way ≡ Way.Undo) }
         ensures ready { IfOk result (λ ready. IsReadyFor T.after T.value T.meaning target.now self.now ready) }
+        ensures few { IsFew self.now }
     {
         match last_of(&self.earlier) {
             Some(group) => Ok(Ready::of_kept(self.alloc, Way::Undo, target, group)?),
@@ -145,6 +151,7 @@ impl<T: Invertible> Groups<T> {
         ensures nothing { (result ≡ Err RedoFault.NothingToRedo) ↔ (self.now.undone ≡ []) }
         ensures way { IfOk result (λ ready. ready.way ≡ Way.Redo) }
         ensures ready { IfOk result (λ ready. IsReadyFor T.after T.value T.meaning target.now self.now ready) }
+        ensures few { IsFew self.now }
     {
         match last_of(&self.undone) {
             Some(group) => Ok(Ready::of_kept(self.alloc, Way::Redo, target, group)?),
@@ -161,6 +168,7 @@ impl<T: Invertible> Groups<T> {
         ensures done { Applies T.after T.value T.meaning ready.way ready.prims target.old target.new self.old self.new }
         ensures past { Steps ready.way (past_of T.meaning (T.value target.old) self.old) (past_of T.meaning (T.value target.new) self.new) }
         ensures of_target { AreOf T.meaning (T.value target.new) self.new }
+        ensures few { IsFew self.new }
     {
         let (way, changed, kept) = ready.into_parts();
         *target = changed;
@@ -169,7 +177,8 @@ impl<T: Invertible> Groups<T> {
 
     // Moves the groups as a step of this way does.
     fn keep(&mut self, way: Way, kept: Group<T::Prim>)
-        ensures { (prims : List T.Prim) → IsNext way prims self.old → Moves way prims kept self.old self.new }
+        ensures moves { (prims : List T.Prim) → IsNext way prims self.old → Moves way prims kept self.old self.new }
+        ensures few { IsFew self.new }
     {
         match way {
             Way::Run => self.append(kept),
@@ -180,7 +189,8 @@ impl<T: Invertible> Groups<T> {
 
     // Appends a new group to the earlier ones, drops the oldest of 257, and empties the undone list.
     fn append(&mut self, kept: Group<T::Prim>)
-        ensures { (prims : List T.Prim) → IsNext Way.Run prims self.old → Moves Way.Run prims kept self.old self.new }
+        ensures moves { (prims : List T.Prim) → IsNext Way.Run prims self.old → Moves Way.Run prims kept self.old self.new }
+        ensures few { IsFew self.new }
     {
         self.undone.clear();
         if self.earlier.len() == MOST_GROUPS {
@@ -191,7 +201,8 @@ impl<T: Invertible> Groups<T> {
 
     // Takes the last earlier group, and appends the kept one to the undone list.
     fn put_undone(&mut self, kept: Group<T::Prim>)
-        ensures { (prims : List T.Prim) → IsNext Way.Undo prims self.old → Moves Way.Undo prims kept self.old self.new }
+        ensures moves { (prims : List T.Prim) → IsNext Way.Undo prims self.old → Moves Way.Undo prims kept self.old self.new }
+        ensures few { IsFew self.new }
     {
         if let Some(_group) = self.earlier.pop_back() {
             self.undone.push_back_reserved(kept);
@@ -200,7 +211,8 @@ impl<T: Invertible> Groups<T> {
 
     // Takes the last undone group, and appends the kept one to the earlier ones.
     fn put_earlier(&mut self, kept: Group<T::Prim>)
-        ensures { (prims : List T.Prim) → IsNext Way.Redo prims self.old → Moves Way.Redo prims kept self.old self.new }
+        ensures moves { (prims : List T.Prim) → IsNext Way.Redo prims self.old → Moves Way.Redo prims kept self.old self.new }
+        ensures few { IsFew self.new }
     {
         if let Some(_group) = self.undone.pop_back() {
             self.earlier.push_back_reserved(kept);

@@ -1,7 +1,8 @@
 //! Whole runs of groups, undos and redos.
 ghost use Rattle.std.specs.Prelude.{◌≡◌, ℕ, ◌≤◌, IfOk, All};
+ghost use Rattle.undo_groups.specs.Lists.{IsFew};
 ghost use Rattle.undo_groups.specs.Past.{Past, AreOf, Steps, Repeated};
-ghost use Rattle.undo_groups.specs.Replay.{IsCountable, Takes, Plays, opening, scene_of};
+ghost use Rattle.undo_groups.specs.Replay.{IsCountable, Takes, Plays, opening};
 
 use crate::fault::{GroupFault, RedoFault, UndoFault};
 use crate::groups::Groups;
@@ -51,9 +52,10 @@ pub fn replay<T: Invertible>(
     steps: &[Step<T::Op>],
 ) -> Result<Replayed<T>, AllocError>
     requires { All IsCountable steps.now }
-    ensures plays { IfOk result (λ played. Plays T.expansion T.after T.value steps.now played.replies.items
-        (opening T.value target.now) (scene_of T.value T.meaning played.target played.groups)) }
+    ensures plays { IfOk result (λ played. Plays T.expansion T.after T.value T.meaning steps.now played.replies.items
+        (opening target.now) (record { target = played.target; lists = played.groups })) }
     ensures of_target { IfOk result (λ played. AreOf T.meaning (T.value played.target) played.groups) }
+    ensures few { IfOk result (λ played. IsFew played.groups) }
 {
     let mut played = target.copy()?;
     let mut groups = Groups::new(alloc)?;
@@ -84,9 +86,10 @@ fn take<T: Invertible>(
 ) -> Result<Reply<T::Why>, AllocError>
     requires countable { IsCountable step.now }
     requires of_target { AreOf T.meaning (T.value target.old) groups.old }
-    ensures takes { IfOk result (λ reply. Takes T.expansion T.after T.value step.now reply
-        (scene_of T.value T.meaning target.old groups.old) (scene_of T.value T.meaning target.new groups.new)) }
+    ensures takes { IfOk result (λ reply. Takes T.expansion T.after T.value T.meaning step.now reply
+        (record { target = target.old; lists = groups.old }) (record { target = target.new; lists = groups.new })) }
     ensures of_target { AreOf T.meaning (T.value target.new) groups.new }
+    ensures few { IsFew groups.new }
 {
     match step {
         Step::Run(ops) => match groups.run_group(target, ops.as_slice()) {

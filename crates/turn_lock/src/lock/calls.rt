@@ -1,6 +1,6 @@
 //! Calls of the machine.
 ghost use Rattle.std.specs.Prelude.{◌≡◌, ℕ, ◌+◌, ◌-◌, ◌<◌, ◌≤◌, [], ◌∷◌, ◌++◌, length, IfOk, IfErr, OnOk, OnErr};
-ghost use Rattle.turn_lock.specs.Numbers.{SameNumbers, HasNoneOf, Gains};
+ghost use Rattle.turn_lock.specs.Numbers.{SameNumbers, HasNoneOf, IsApart, Gains};
 
 use super::TurnLock;
 use super::turn::{answer, wait_for_turn};
@@ -30,8 +30,11 @@ impl<M: Machine> TurnLock<M> {
         // It begins with what the seat had seen and ends with the entry, and none of the entries between is of the seat's numbers.
         ensures grown { IfOk result (λ e. (between : _) × (seen seat.new ≡ (seen seat.old ++ between) ++ e ∷ []) × HasNoneOf (known seat.old) between) }
         ensures entry { IfOk result (λ e. (e.number ≡ length (seen seat.new)) × (e.caller ≡ (known seat.old).number) × (e.cmd ≡ cmd.now)) }
+        // Its number is the seat's own, and none of its others.
+        ensures apart { IfOk result (λ e. IsApart (known seat.old) e.caller) }
         ensures own { IfOk result (λ e. own_calls seat.new ≡ own_calls seat.old ++ e ∷ []) }
         ensures tried { OnOk result ((tries seat.old < tries seat.new) × (last_read seat.new ≡ 0)) }
+        ensures tries { tries seat.old ≤ tries seat.new }
         // A refused call leaves what the seat's own calls are, and gains no entry of the seat's numbers.
         ensures refused { OnErr result (Gains (known seat.old) (seen seat.new) × (own_calls seat.new ≡ own_calls seat.old)) }
         ensures cause { IfErr result (CallCause self.now seat.old seat.new) }
@@ -52,9 +55,12 @@ impl<M: Machine> TurnLock<M> {
         // It begins with what the seat had seen and ends with the entry, and none of the entries between is of the seat's numbers.
         ensures grown { IfOk result (λ e. (between : _) × (seen seat.new ≡ (seen seat.old ++ between) ++ e ∷ []) × HasNoneOf (known seat.old) between) }
         ensures entry { IfOk result (λ e. (e.number ≡ length (seen seat.new)) × (e.caller ≡ (known seat.old).number) × (e.cmd ≡ cmd.now)) }
+        // Its number is the seat's own, and none of its others.
+        ensures apart { IfOk result (λ e. IsApart (known seat.old) e.caller) }
         ensures own { IfOk result (λ e. own_calls seat.new ≡ own_calls seat.old ++ e ∷ []) }
         // The turn word was read once, as 0.
         ensures tried { OnOk result ((tries seat.new ≡ tries seat.old + 1) × (last_read seat.new ≡ 0)) }
+        ensures tries { (tries seat.old ≤ tries seat.new) × (tries seat.new ≤ tries seat.old + 1) }
         // A refused call leaves what the seat's own calls are, and gains no entry of the seat's numbers.
         ensures refused { OnErr result (Gains (known seat.old) (seen seat.new) × (own_calls seat.new ≡ own_calls seat.old)) }
         ensures cause { IfErr result (TryCause self.now seat.old seat.new) }

@@ -1,6 +1,7 @@
 use Rattle.std.proofs.Common.{arith, ◌≡◌, ◌≤◌, length, sym, ap, ◌∙◌, inl, inr}
 use Rattle.turn_lock.specs.History.{calls_of}
 use Rattle.turn_lock.proofs.Gaining.{gains_of}
+use Rattle.turn_lock.proofs.Calling.{apart_still}
 use Rattle.turn_lock.proofs.lock.TurnLock.count.Goals as goal
 
 pub overflow_cast-result : goal.overflow_cast-result
@@ -16,7 +17,7 @@ invariant_of-seat g c = let seat = c.args.seat.now in let k = seat.pass.me.0.kno
     let left : c.load_count.new.pass.me.0.known.left ≡ k.left = ap (λ m. m.0.known.left) now in record {
       numbers = (seat.numbers.0 ∙ sym (ap (λ m. m.0.known.number) now), seat.numbers.1 ∙ sym left);
       rests = (ap (λ m. m.0.stage) now, ap (λ m. m.1) now ∙ seat.rests.1);
-      apart = seat.apart;
+      apart = apart_still k c.load_count.new.pass.me.0.known (ap (λ m. m.0.known.number) now, left, ap (λ m. m.0.known.joined) now) seat.apart;
       within = λ t of. (read.4 t (sym (ap (λ m. m.0.terms) now) ∙ of)).within.0;
       ungiven = λ n low high. let inside : n ≤ k.left = omega arith in
           ap (λ m. length (calls_of n m.0.known.seen)) now ∙ (ap length (gains_of k read.0 read.2 n (inr (inl (low, inside)))) ∙ seat.ungiven n low inside);

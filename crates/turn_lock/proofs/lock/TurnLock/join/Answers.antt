@@ -1,7 +1,7 @@
 use Rattle.std.proofs.Common.{arith, ◌≡◌, ◌≤◌, length, Some, sym, ap, ◌∙◌, subst, refl, inl, inr}
 use Rattle.turn_lock.specs.declared.view.Stage.TheVariants.{Resting}
 use Rattle.turn_lock.specs.History.{calls_of}
-use Rattle.turn_lock.specs.Numbers.{Gains}
+use Rattle.turn_lock.specs.Numbers.{IsApart, Gains}
 use Rattle.turn_lock.specs.Rule.{joined_view}
 use Rattle.turn_lock.proofs.Gaining.{gains_of, by_length}
 use Rattle.turn_lock.proofs.lock.TurnLock.join.Goals as goal
@@ -16,7 +16,7 @@ invariant_of-seat g c = let seat = c.args.seat.now in let v = seat.pass.me.0 in 
     let left : new.0.known.left ≡ v.known.left = ap (λ m. m.0.known.left) now in record {
       numbers = (seat.numbers.0 ∙ sym (ap (λ m. m.0.known.number) now), seat.numbers.1 ∙ sym left);
       rests = (ap (λ m. m.0.stage) now, ap (λ m. m.1) now ∙ seat.rests.1);
-      apart = seat.apart;
+      apart = subst (λ m. IsApart m.0.known m.0.known.number) (sym did.0) did.2;
       within = λ t of. let terms : v.terms ≡ Some t = sym (ap (λ m. m.0.terms) now) ∙ of in
           subst (λ h. length h ≤ t.limit) (sym (ap (λ m. m.0.known.seen) now)) (by_length v.known.seen w.known.seen (λ h. length h ≤ t.limit)
           (λ _. c.args.other.within t (c.requires.other.1 ∙ (sym c.requires.seat.1 ∙ terms))) (λ _. seat.within t terms));

@@ -1,7 +1,8 @@
-use Rattle.std.proofs.Common.{arith, ◌≡◌, ◌<◌, ◌≤◌, ◌∷◌, length, Some, sym, ap, ◌∙◌, subst}
+use Rattle.std.proofs.Common.{arith, ◌≡◌, ◌≤◌, ◌∷◌, length, Some, refl, sym, ap, ◌∙◌, subst}
 use Rattle.turn_lock.specs.Numbers.{Gains}
 use Rattle.turn_lock.proofs.Sitting.{same_terms}
-use Rattle.turn_lock.proofs.Calling.{ungiven_after}
+use Rattle.turn_lock.proofs.Gaining.{gains_itself}
+use Rattle.turn_lock.proofs.Calling.{on_err, apart_still, ungiven_after}
 use Rattle.turn_lock.proofs.lock.TurnLock.try_call.Goals as goal
 
 pub take_turn-found-requires : goal.take_turn-found-requires
@@ -26,9 +27,12 @@ invariant_of-seat-2 g c = let seat = c.args.seat.now in let turn = c.take_turn-f
     let terms = ap (λ m. m.0.terms) last ∙ (ap (λ m. m.0.terms) now ∙ (c.requires.1 ∙ ap (λ u. Some u) (sym lock.keyed))) in record {
       numbers = (seat.numbers.0 ∙ sym number, seat.numbers.1 ∙ sym left);
       rests = (ap (λ m. m.0.stage) last, ap (λ m. m.1) last);
-      apart = seat.apart;
+      apart = apart_still seat.pass.me.0.known c.answer.new.pass.me.0.known (number, left, ap (λ m. m.0.known.joined) last ∙ ap (λ m. m.0.known.joined) now) seat.apart;
       within = λ t of. subst (λ u. length c.answer.new.pass.me.0.known.seen ≤ u.limit) (same_terms lock.table.shared.key c.answer.new.pass.me.0.terms t terms of) did.saw.within.0;
       ungiven = λ n low high. let within : n ≤ seat.pass.me.0.known.left = omega arith in
           ungiven_after seat.pass.me.0.known c.take_turn-found.new.pass.me.0.known.seen c.answer.new.pass.me.0.known.seen (subst (Gains seat.pass.me.0.known) (sym held) turn.2)
-          (λ m other. did.others m (λ e. other (e ∙ seat.numbers.0))) (λ some. let few : 0 < seat.left = omega arith in sym seat.numbers.0 ∙ seat.apart few) seat.ungiven n low within;
+          (λ m other. did.others m (λ e. other (e ∙ seat.numbers.0))) seat.apart seat.ungiven n low within;
     }
+
+pub returns-in_err-order-clause-refused : goal.returns-in_err-order-clause-refused
+returns-in_err-order-clause-refused g c = let k = c.args.seat.now.pass.me.0.known in on_err c.from_residual.result _ (gains_itself k k.seen refl, refl)

@@ -20,7 +20,7 @@ applies g c =
       lists =
           subst (λ w. Moves w prims (inverse g.T.Invertible.meaning (g.T.Invertible.value c.args.target.now) prims) c.args.self.now c.keep.new.self) way
           (subst (λ k. Moves c.into_parts-way.result.0 prims k c.args.self.now c.keep.new.self) kept
-          (c.keep.ensures prims (subst (λ w. IsNext w prims c.args.self.now) (sym way) c.requires.ready.next)));
+          (c.keep.ensures.moves prims (subst (λ w. IsNext w prims c.args.self.now) (sym way) c.requires.ready.next)));
     }
 
 pub returns-clause-past : goal.returns-clause-past
