@@ -6,6 +6,8 @@ mod iter;
 mod joins;
 mod rope;
 mod share_vec;
+#[cfg(test)]
+mod tests;
 mod turns;
 
 pub use iter::Iter;
