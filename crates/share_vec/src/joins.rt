@@ -1,8 +1,7 @@
 //! New ropes of old ones: whole sides are taken over, and what was there stays as it is.
-ghost use Rattle.std.specs.Prelude.{◌≡◌, ◌+◌, ◌<◌, ◌≤◌, ◌++◌, length, take, drop, vec_len, IfOk, IfSome, OnOk};
+ghost use Rattle.std.specs.Prelude.{◌≡◌, ◌≤◌, ◌++◌, length, take, drop, vec_len, IfOk, IfSome, OnOk};
 ghost use Rattle.std.specs.List.{splice};
 ghost use Rattle.std.specs.Arc.{arc_value};
-ghost use Rattle.share_vec.specs.Rope.{items_of, IsProper};
 
 use crate::rope::{Node, Rope, rope_of};
 use crate::turns::{FULL, is_heavy, paired};

@@ -123,6 +123,15 @@ impl<T: Drop> ShareVec<T> {
     }
 }
 
+/// A clone is a shared list.
+impl<T: Drop> Clone for ShareVec<T> {
+    ghost is_clone = { λ list copy. copy ≡ list };
+
+    fn clone(&self) -> Result<ShareVec<T>, AllocError> {
+        self.share()
+    }
+}
+
 impl<T: Clone> ShareVec<T> {
     /// Puts an item in before the place, counted from 0, or at the end. For want of memory the item comes back.
     pub fn insert(&mut self, at: usize, item: T) -> Result<(), T>

@@ -1,5 +1,5 @@
 //! The list beside a `Vec`, shared lists, and want of memory.
-ghost use Rattle.std.specs.Prelude.{◌≡◌, ◌<◌, ◌≤◌, length, IfOk, OnOk, OnErr, IfErr, slice_set};
+ghost use Rattle.std.specs.Prelude.{◌≡◌, ◌<◌, length, IfOk, OnOk, OnErr, slice_set};
 
 mod beside;
 mod word;
@@ -64,7 +64,6 @@ fn another_thread_reads_its_copy_while_the_list_changes(rt: HostRuntime) -> Resu
     assert!(rt; kept);
     assert!(rt; emptied);
     assert!(rt; reads(&copy, &numbers));
-    assert!(rt; list.len() > 0);
     assert!(rt; 0 < list.len());
     let kept = replace_apart(&mut list, 0, 7)?;
     assert!(rt; kept.len() == list.len());

@@ -1,5 +1,5 @@
 //! How a rope is kept level. No contract speaks of it: where memory is missing, a turn is left out.
-ghost use Rattle.std.specs.Prelude.{◌≡◌, ◌+◌, ◌<◌, ◌≤◌, ◌++◌, length, IfOk, IfSome};
+ghost use Rattle.std.specs.Prelude.{◌≡◌, ◌<◌, ◌++◌, length, IfOk, IfSome};
 ghost use Rattle.std.specs.Arc.{arc_value};
 ghost use Rattle.share_vec.specs.Rope.{items_of, IsProper};
 

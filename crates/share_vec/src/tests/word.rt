@@ -1,5 +1,5 @@
 //! An item whose clone takes memory.
-ghost use Rattle.std.specs.Prelude.{◌≡◌, ◌<◌, ◌≤◌, length, IfOk};
+ghost use Rattle.std.specs.Prelude.{◌≡◌, ◌<◌, ◌≤◌, length};
 
 use crate::ShareVec;
 use std::alloc::{AllocError, Global};
