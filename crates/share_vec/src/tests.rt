@@ -5,7 +5,7 @@ mod beside;
 mod word;
 
 use crate::ShareVec;
-use beside::{calls_agree, first_numbers, reads};
+use beside::{calls_agree, first_numbers, reads, remove_both, replace_both};
 use std::alloc::{AllocError, Global};
 use std::test::Fail;
 use std::thread::join;
@@ -14,27 +14,25 @@ use word::{Word, each_call_twice};
 #[test]
 fn a_shared_list_keeps_what_it_held(rt: HostRuntime) -> Result<(), Fail> {
     let numbers = first_numbers(rt.alloc(), 1, 1_001)?;
+    let mut plain = first_numbers(rt.alloc(), 1, 1_001)?;
     let mut list = ShareVec::from_list(rt.alloc(), first_numbers(rt.alloc(), 1, 1_001)?)?;
     let copy = list.share()?;
-    assert!(rt; zero_500_and_drop_0(&mut list));
+    assert!(rt; zero_500_and_drop_0(&mut list, &mut plain)?);
     assert!(rt; reads(&copy, &numbers));
     assert_eq!(rt; list.len(), 999);
-    assert!(rt; reads_zero_at_499(&list));
+    assert_eq!(rt; *list.get(499), 0);
+    assert!(rt; reads(&list, &plain));
     Ok(())
 }
 
-fn zero_500_and_drop_0(list: &mut ShareVec<u32>) -> bool {
-    if list.len() <= 500 || list.replace(500, 0) != Ok(501) {
-        return false;
+fn zero_500_and_drop_0(list: &mut ShareVec<u32>, plain: &mut Vec<u32>) -> Result<bool, AllocError> {
+    if list.len() <= 500 || plain.len() <= 500 || !replace_both(list, plain, 500, 0)? {
+        return Ok(false);
     }
-    if list.len() == 0 {
-        return false;
+    if list.len() == 0 || plain.len() == 0 {
+        return Ok(false);
     }
-    list.remove(0) == Ok(1)
-}
-
-fn reads_zero_at_499(list: &ShareVec<u32>) -> bool {
-    499 < list.len() && *list.get(499) == 0
+    remove_both(list, plain, 0)
 }
 
 // What is done to a list leaves each list that was shared from it, whatever the items are.
@@ -77,7 +75,7 @@ fn empty_out(list: &mut ShareVec<u32>) -> bool {
         if len <= 1 {
             return true;
         }
-        if list.remove(len / 2).is_err() {
+        if list.remove(len / 2).is_err() && list.len() != len {
             return false;
         }
     }

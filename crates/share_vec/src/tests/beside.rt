@@ -110,7 +110,8 @@ fn insert_both(
     Ok(true)
 }
 
-fn replace_both(
+/// Whether a call answers the same on both. Where there was no memory, the list was as before, and it is made once more.
+pub fn replace_both(
     list: &mut ShareVec<u32>,
     plain: &mut Vec<u32>,
     at: usize,
@@ -136,7 +137,8 @@ fn replace_both(
     Ok(same)
 }
 
-fn remove_both(
+/// The same of another call.
+pub fn remove_both(
     list: &mut ShareVec<u32>,
     plain: &mut Vec<u32>,
     at: usize,
