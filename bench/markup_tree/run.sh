@@ -15,8 +15,8 @@ for name in markup_parts markup_tags markup_tree; do
 done
 cp "$here/main.txt" "$work/crates/reading/src/main.rt"
 cat >"$work/crates.txt" <<'LIST'
-markup_parts:
-markup_tags: markup_parts
+markup_parts: thiserror
+markup_tags: markup_parts thiserror
 markup_tree: markup_parts markup_tags sqlite_items thiserror
 reading: markup_tree anyhow
 LIST
@@ -24,7 +24,7 @@ cd "$work/crates/reading"
 echo "<a/>" >document.xml
 rt run >build.log 2>&1 || { cat build.log; exit 1; }
 printf '%-12s %5s %10s %10s %10s %12s\n' shape MiB read_tree xmllint expat peak_KiB
-for shape in text attributes comments cdata elements references long_value one_text; do
+for shape in text attributes comments cdata elements small short references long_value one_text; do
     for mib in ${SIZES:-1 4 16 50}; do
         python3 "$here/shapes.py" "$shape" $((mib * 1048576)) >document.xml
         ours=$(/usr/bin/time -f %M -o peak ./out/reading | awk 'NF == 3 && $3 == "true" { print $2 / 1000 }')

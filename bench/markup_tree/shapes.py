@@ -7,6 +7,8 @@ PARTS = {
     "comments": "<!-- " + "a hidden remark " * 30 + "-->\n",
     "cdata": "<![CDATA[" + "raw <text> & more\n" * 30 + "]]>\n",
     "elements": "<a><b><c/></b></a>\n",
+    "small": "<a b='c'/>",
+    "short": "<a" + " b=''" * 200 + "/>",
     "references": "&lt;&#65;&#x1F600;&amp;" * 20 + "\n",
     "long_value": None,
     "one_text": None,

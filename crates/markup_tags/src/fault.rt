@@ -2,13 +2,16 @@
 
 use markup_parts::Stop;
 use std::alloc::{AllocError, AllocFailed};
+use thiserror::Error;
 
 /// Why a construct wasn't read.
-#[derive(Debug, Clone, Copy, PartialEq, Eq)]
+#[derive(Debug, Clone, Copy, PartialEq, Eq, Error)]
 pub enum Fault {
     /// Reading stopped.
+    #[error("{0}")]
     Stopped(Stop),
     /// Memory was refused.
+    #[error("memory was refused")]
     NoMemory,
 }
 

@@ -19,20 +19,25 @@ use thiserror::Error;
 const MOST_OPEN: usize = 200;
 
 /// What is wrong with a document.
-#[derive(Debug, Clone, Copy, PartialEq, Eq)]
+#[derive(Debug, Clone, Copy, PartialEq, Eq, Error)]
 pub enum OffenceKind {
     /// Bytes are no UTF-8.
+    #[error("bytes are no UTF-8")]
     NotUtf8,
     /// A construct isn't one of XML, or doesn't fit where it stands, or the document ends too soon.
+    #[error("the markup is broken or ends too soon")]
     Form,
     /// A document type begins.
+    #[error("a document type begins")]
     Doctype,
     /// An element stands in 200 open ones.
+    #[error("an element stands in 200 open ones")]
     Deep,
 }
 
 /// An offence and its place.
-#[derive(Debug, Clone, Copy, PartialEq, Eq)]
+#[derive(Debug, Clone, Copy, PartialEq, Eq, Error)]
+#[error("{kind}, at byte {place}")]
 pub struct Offence {
     pub kind: OffenceKind,
     /// The first byte of the construct or the bad sequence, counted from 0, or the length where the document ends too soon.
@@ -42,7 +47,7 @@ pub struct Offence {
 /// Why no tree was read.
 #[derive(Debug, Clone, Copy, PartialEq, Eq, Error)]
 pub enum ReadFault {
-    #[error("the document has an offence")]
+    #[error("{0}")]
     Offence(Offence),
     #[error("memory was refused")]
     NoMemory,

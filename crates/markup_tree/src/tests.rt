@@ -5,7 +5,7 @@ mod table;
 use super::*;
 use std::alloc::{AllocError, Global};
 use std::test::Fail;
-use table::{BYTES, TEXTS};
+use table::{BYTES, TEXTS, WHOLE};
 
 /// An element as `name@place[attribute=value](nodes)`.
 fn show(out: &mut String, elem: &Elem) -> Result<(), AllocError> {
@@ -47,11 +47,12 @@ fn told(alloc: Global, bytes: &[u8]) -> Result<String, AllocError> {
     }
     match read_tree(alloc, bytes) {
         Err(ReadFault::NoMemory) => String::from_str(alloc, "no memory"),
-        Err(ReadFault::Offence(offence)) => format!(in alloc;
-            "{} {}",
-            word(offence.kind),
-            offence.place
-        ),
+        Err(ReadFault::Offence(offence)) => {
+            let mut out = String::from_str(alloc, word(offence.kind))?;
+            out.push(' ')?;
+            out.push_str(&offence.place.to_string(alloc)?)?;
+            Ok(out)
+        }
         Ok(tree) => {
             let mut out = String::new(alloc);
             show(&mut out, &tree.root)?;
@@ -60,78 +61,138 @@ fn told(alloc: Global, bytes: &[u8]) -> Result<String, AllocError> {
     }
 }
 
+/// Whether reading bytes comes to this.
+fn comes_to(alloc: Global, bytes: &[u8], wanted: &str) -> Result<bool, AllocError> {
+    let answer = told(alloc, bytes)?;
+    Ok(answer.as_str() == wanted)
+}
+
+/// Whether a beginning of a document is refused at its end.
+fn is_refused_at_its_end(alloc: Global, front: &[u8]) -> Result<bool, AllocError> {
+    let mut wanted = String::from_str(alloc, "form ")?;
+    wanted.push_str(&front.len().to_string(alloc)?)?;
+    comes_to(alloc, front, &wanted)
+}
+
+/// Whether all texts and bytes of the tables come to what stands there.
+fn come_to_the_tables(alloc: Global) -> Result<bool, AllocError> {
+    for (text, wanted) in &TEXTS {
+        if !comes_to(alloc, text.as_bytes(), wanted)? {
+            return Ok(false);
+        }
+    }
+    for (bytes, wanted) in &BYTES {
+        if !comes_to(alloc, bytes, wanted)? {
+            return Ok(false);
+        }
+    }
+    Ok(true)
+}
+
 #[test]
 fn documents_are_read_or_have_their_first_offence(rt: HostRuntime) -> Result<(), Fail> {
-    for (text, wanted) in &TEXTS {
-        let answer = told(rt.alloc(), text.as_bytes())?;
-        assert_eq!(rt; answer.as_str(), *wanted, "{text:?}");
+    assert!(rt; come_to_the_tables(rt.alloc())?);
+    let whole = WHOLE.as_bytes();
+    for end in 0..whole.len() {
+        assert!(rt; is_refused_at_its_end(rt.alloc(), &whole[..end])?, "{end}");
     }
     Ok(())
 }
 
-#[test]
-fn bytes_that_are_no_text_are_told_first(rt: HostRuntime) -> Result<(), Fail> {
-    for (bytes, wanted) in &BYTES {
-        let answer = told(rt.alloc(), bytes)?;
-        assert_eq!(rt; answer.as_str(), *wanted, "{bytes:?}");
+/// A text so many times.
+fn times(alloc: Global, text: &str, count: u32) -> Result<String, AllocError> {
+    let mut out = String::new(alloc);
+    for _ in 0..count {
+        out.push_str(text)?;
     }
-    Ok(())
+    Ok(out)
 }
+
+/// Whether 200 open elements and what stands behind them come to this.
+fn nested_comes_to(alloc: Global, tail: &str, wanted: &str) -> Result<bool, AllocError> {
+    let mut text = times(alloc, "<a>", 200)?;
+    text.push_str(tail)?;
+    comes_to(alloc, text.as_bytes(), wanted)
+}
+
+/// What stands behind 200 open elements, and what the document comes to.
+const TAILS: &[(&str, &str)] = &[
+    ("", "form 600"),
+    ("<a>", "deep 600"),
+    ("<a/>", "deep 600"),
+    ("<a b=1>", "form 600"),
+    ("<a ", "form 603"),
+    ("b</a>", "form 605"),
+];
 
 #[test]
 fn two_hundred_elements_may_be_open(rt: HostRuntime) -> Result<(), Fail> {
-    let mut text = String::new(rt.alloc());
-    for _ in 0..200 {
-        text.push_str("<a>")?;
+    for (tail, wanted) in TAILS {
+        assert!(rt; nested_comes_to(rt.alloc(), tail, wanted)?, "{tail:?}");
     }
-    let answer = told(rt.alloc(), text.as_bytes())?;
-    assert_eq!(rt; answer.as_str(), "form 600");
-    for tail in [
-        ("<a>", "deep 600"),
-        ("<a/>", "deep 600"),
-        ("<a b=1>", "form 600"),
-        ("<a ", "form 603"),
-    ] {
-        let longer = format!(in rt.alloc(); "{text}{}", tail.0)?;
-        let answer = told(rt.alloc(), longer.as_bytes())?;
-        assert_eq!(rt; answer.as_str(), tail.1);
-    }
-    for _ in 0..200 {
-        text.push_str("</a>")?;
-    }
+    let mut text = times(rt.alloc(), "<a>", 200)?;
+    text.push_str(&times(rt.alloc(), "</a>", 200)?)?;
     let answer = told(rt.alloc(), text.as_bytes())?;
     assert!(rt; answer.starts_with("a@0(a@3(a@6("));
     Ok(())
 }
 
-#[test]
-fn a_document_that_is_cut_short_is_refused_at_its_end(rt: HostRuntime) -> Result<(), Fail> {
-    let whole = table::WHOLE.as_bytes();
-    for end in 0..whole.len() {
-        let answer = told(rt.alloc(), &whole[..end])?;
-        let wanted = format!(in rt.alloc(); "form {end}")?;
-        assert_eq!(rt; answer.as_str(), wanted.as_str());
+/// An element with 1,200 attributes and one that holds a text, and the same text in it.
+fn holding(alloc: Global, text: &str) -> Result<String, AllocError> {
+    let mut out = String::from_str(alloc, "<a")?;
+    out.push_str(&times(alloc, " b='c'", 1_200)?)?;
+    out.push_str(" d=\"")?;
+    out.push_str(&escape_value(alloc, text)?)?;
+    out.push_str("\">")?;
+    out.push_str(&escape_text(alloc, text)?)?;
+    out.push_str("</a>")?;
+    Ok(out)
+}
+
+/// Whether an element is the one that holds a text.
+fn holds(elem: &Elem, text: &str) -> bool {
+    let attrs = elem.attrs.get();
+    match attrs.last() {
+        None => false,
+        Some(last) => {
+            attrs.len() == 1_201
+                && last.value.get() == text
+                && elem.nodes.as_slice().len() == text.chars().count()
+        }
     }
-    let answer = told(rt.alloc(), whole)?;
-    assert!(rt; answer.starts_with("office:document@"));
+}
+
+/// Whether a document of more than 1 MiB is read as what was written. In it 300,000 characters stand in a value and in the
+/// text.
+fn is_large_read_back(alloc: Global) -> Result<bool, AllocError> {
+    let text = times(alloc, "\"&é", 100_000)?;
+    let document = holding(alloc, &text)?;
+    if document.len() < 1 << 20 || document.len() > 1 << 28 {
+        return Ok(false);
+    }
+    match read_tree(alloc, document.as_bytes()) {
+        Err(_) => Ok(false),
+        Ok(tree) => Ok(holds(&tree.root, &text)),
+    }
+}
+
+#[test]
+fn what_is_escaped_is_read_back_at_any_length(rt: HostRuntime) -> Result<(), Fail> {
+    let value = escape_value(rt.alloc(), "a<b>&\"'\t\n\r]]>é")?;
+    assert!(rt; value.as_str() == "a&lt;b&gt;&amp;&quot;'&#9;&#10;&#13;]]&gt;é");
+    let characters = escape_text(rt.alloc(), "a<b>&\"'\t\n\r]]>é")?;
+    assert!(rt; characters.as_str() == "a&lt;b&gt;&amp;\"'\t\n\r]]&gt;é");
+    assert!(rt; is_large_read_back(rt.alloc())?);
     Ok(())
 }
 
 #[test]
-fn what_is_escaped_is_read_back(rt: HostRuntime) -> Result<(), Fail> {
-    let text = "a<b>&\"'\t\n\r]]>é";
-    let characters = escape_text(rt.alloc(), "a<b>&\"'\t\n]]>é")?;
-    assert_eq!(rt; characters.as_str(), "a&lt;b&gt;&amp;\"'\t\n]]&gt;é");
-    let value = escape_value(rt.alloc(), text)?;
-    assert_eq!(rt;
-        value.as_str(),
-        "a&lt;b&gt;&amp;&quot;'&#9;&#10;&#13;]]&gt;é"
-    );
-    let document = format!(in rt.alloc(); "<a b=\"{value}\">{characters}</a>")?;
-    let answer = told(rt.alloc(), document.as_bytes())?;
-    assert_eq!(rt;
-        answer.as_str(),
-        "a@0[b=a<b>&\"'\t\n\r]]>é](a<b>&\"'\t\n]]>é)"
-    );
+fn a_fault_is_told_by_kind_and_place(rt: HostRuntime) -> Result<(), Fail> {
+    let fault = ReadFault::Offence(Offence {
+        kind: OffenceKind::Doctype,
+        place: 5,
+    });
+    let text = fault.to_string(rt.alloc())?;
+    assert!(rt; text.as_str() == "a document type begins, at byte 5");
     Ok(())
 }

@@ -18,8 +18,8 @@ const FIRST_READ: usize = 8192;
 
 /// The system's files. It does not tell what they hold.
 ///
-/// A name is a path as it is written, seen from the current directory. A fetch keeps at most one byte more
-/// than its limit in memory.
+/// A name is a path as it is written, seen from the current directory. A fetch reads at most one byte more
+/// than its limit. The vector that it fills may have room for up to twice that.
 #[derive(Drop)]
 pub struct FolderShelf<R> {
     files: R,
@@ -98,7 +98,7 @@ fn expected_len<F: OpenFile>(file: &F) -> usize {
 }
 
 // Reads to the end, or to one byte more than `most`.
-fn read_whole<R: Read>(
+pub(crate) fn read_whole<R: Read>(
     reader: &mut R,
     expected: usize,
     most: u32,
@@ -168,82 +168,4 @@ fn read_at<R: Read>(reader: &mut R, into: &mut Vec<u8>, at: usize) -> io::Result
 {
     let bytes = into.as_mut_slice();
     reader.read(&mut bytes[at..])
-}
-
-#[cfg(test)]
-mod tests {
-    use super::*;
-    use std::fs;
-    use std::test::Fail;
-
-    // A reader that gives three bytes at most at a time, and ends or fails after the last.
-    #[derive(Drop)]
-    struct Trickle<'a> {
-        left: &'a [u8],
-        fails_at_end: bool,
-    }
-
-    impl Read for Trickle<'_> {
-        fn read(&mut self, buf: &mut [u8]) -> io::Result<usize> {
-            let count = buf.len().min(3).min(self.left.len());
-            if count == 0 && self.fails_at_end {
-                return Err(io::Error::from(ErrorKind::Other));
-            }
-            buf[..count].copy_from_slice(&self.left[..count]);
-            self.left = &self.left[count..];
-            Ok(count)
-        }
-    }
-
-    #[test]
-    fn answers_by_the_files_of_the_system(rt: HostRuntime) -> Result<(), Fail> {
-        let name = "quill_io_folder_shelf.tmp";
-        let mut bytes = Vec::new(rt.alloc());
-        for number in 0..20000u32 {
-            bytes.push((number % 251) as u8)?;
-        }
-        fs::write(&rt, name, bytes.as_slice())?;
-        let none: &[u8] = &[];
-        let rows = [
-            (name, 20000, Ok(Fetched::Bytes), bytes.as_slice(), 0),
-            (name, 19999, Err(FetchFault::TooLong(19999)), none, 0),
-            ("quill_io_missing.tmp", 9, Ok(Fetched::Absent), none, 0),
-            ("", 9, Ok(Fetched::Absent), none, 0),
-            (".", 9, Err(FetchFault::Failed), none, 1),
-            (name, u32::MAX, Ok(Fetched::Bytes), bytes.as_slice(), 1),
-            ("a\0b", 9, Err(FetchFault::Failed), none, 2),
-        ];
-        let mut shelf = FolderShelf::new(&rt);
-        let mut into = Vec::new(rt.alloc());
-        for (name, most, answer, came, faults) in rows {
-            assert_eq!(rt;
-                shelf.fetch(name, most, &mut into),
-                answer,
-                "{name:?} of at most {most}"
-            );
-            assert_eq!(rt; into.as_slice(), came, "{name:?} of at most {most}");
-            assert_eq!(rt; shelf.faults(), faults, "{name:?} of at most {most}");
-        }
-        fs::remove_file(&rt, name)?;
-        Ok(())
-    }
-
-    #[test]
-    fn tells_a_failed_read_from_the_end(rt: HostRuntime) -> Result<(), Fail> {
-        let rows = [
-            (false, 7, Ok(())),
-            (false, 6, Err(FetchFault::TooLong(6))),
-            (true, 7, Err(FetchFault::Failed)),
-            (true, 6, Err(FetchFault::TooLong(6))),
-        ];
-        for (fails_at_end, most, answer) in rows {
-            let mut reader = Trickle {
-                left: b"written",
-                fails_at_end,
-            };
-            let mut into = Vec::new(rt.alloc());
-            assert_eq!(rt; read_whole(&mut reader, 0, most, &mut into), answer);
-        }
-        Ok(())
-    }
 }

@@ -20,3 +20,6 @@ pub use mem_sink::MemSink;
 pub use shelf::{FetchFault, Fetched, Shelf};
 pub use sink::{Sink, SinkFault};
 pub use std_sink::StdSink;
+
+#[cfg(test)]
+mod tests;

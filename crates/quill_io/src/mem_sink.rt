@@ -112,39 +112,3 @@ impl Sink for MemSink {
         Ok(())
     }
 }
-
-#[cfg(test)]
-mod tests {
-    use super::*;
-    use std::test::Fail;
-
-    fn put_to<K: Sink>(sink: &mut K, bytes: &[u8]) -> Result<(), SinkFault> {
-        sink.put(bytes)
-    }
-
-    #[test]
-    fn takes_pieces_up_to_its_room_and_fails_at_listed_calls(rt: HostRuntime) -> Result<(), Fail> {
-        let alloc = rt.alloc();
-        let mut sink = MemSink::new(alloc, 6, [2].to_vec(alloc)?)?;
-        let rows: [(&str, Result<(), SinkFault>, &str, u64); 8] = [
-            ("ab", Ok(()), "ab", 0),
-            ("c", Err(SinkFault::Failed), "ab", 1),
-            ("cd", Ok(()), "abcd", 1),
-            ("", Ok(()), "abcd", 1),
-            ("efg", Err(SinkFault::Failed), "abcdef", 2),
-            ("", Ok(()), "abcdef", 2),
-            ("g", Err(SinkFault::Failed), "abcdef", 3),
-            ("", Ok(()), "abcdef", 3),
-        ];
-        for (piece, answer, held, faults) in rows {
-            assert_eq!(rt;
-                put_to(&mut sink, piece.as_bytes()),
-                answer,
-                "{piece:?} before {held:?}"
-            );
-            assert_eq!(rt; sink.held(), held.as_bytes());
-            assert_eq!(rt; sink.faults(), faults, "{piece:?} before {held:?}");
-        }
-        Ok(())
-    }
-}

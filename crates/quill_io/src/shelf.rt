@@ -37,7 +37,8 @@ pub trait Shelf {
     // How many faults it has met.
     ghost faults: { Self → ℕ };
 
-    /// Fetches the file `name` of at most `most` bytes, and puts its bytes in the place of what `into` had.
+    /// Fetches the file `name` of at most `most` bytes, and puts its bytes in the place of what `into` had. After any
+    /// answer but `Bytes`, want of memory too, `into` is empty.
     fn fetch(&mut self, name: &str, most: u32, into: &mut Vec<u8>) -> Result<Fetched, FetchFault>
         ensures keeps_files { files self.new ≡ files self.old }
         ensures told { IfSome (files self.old)

@@ -35,15 +35,22 @@ pub kept_are : {T : Type 0} (xs zs : List T) (from end wide : ℕ) → take from
 kept_are xs zs from end wide front rest =
     ap (λ cs. cs ++ drop wide zs) front ∙ ap (λ cs. take from xs ++ cs) rest
 
+-- the cells from a place on are those behind the gap, so what is taken out there are the items that are replaced
+pub taken_are : {T : Type 0} (xs zs : List T) (from to width wide n : ℕ) → n ≡ to - from → drop wide zs ≡ drop (from + width) xs → from ≤ length xs → from ≤ to → between wide (wide + n) zs ≡ between from to (remove_range xs from (from + width))
+taken_are xs zs from to width wide n count rest within order =
+    let here : wide + n - wide ≡ to - from = omega arith in
+    let there : from + width + (to - from) - (from + width) ≡ to - from = omega arith in
+    ap (λ k. take k (drop wide zs)) here ∙ ap (take (to - from)) rest ∙ ap (λ k. take k (drop (from + width) xs)) (sym there) ∙ removed_are xs from to width within order
+
 -- the gap moved past the new items and over the removed ones
-pub spliced_are : {T : Type 0} (xs zs items : List T) (from to end wide : ℕ) → take (from + length items) zs ≡ take from xs ++ items → drop wide zs ≡ drop end xs → from ≤ length xs → from ≤ to → remove_range zs (from + length items) (wide + (to - from)) ≡ splice (remove_range xs from end) from to items
-spliced_are xs zs items from to end wide written rest within order =
+pub spliced_are : {T : Type 0} (xs ws items : List T) (from to end wide : ℕ) → take (from + length items) ws ≡ take from xs ++ items → drop (wide + (to - from)) ws ≡ drop (end + (to - from)) xs → from ≤ length xs → from ≤ to → remove_range ws (from + length items) (wide + (to - from)) ≡ splice (remove_range xs from end) from to items
+spliced_are xs ws items from to end wide written rest within order =
     let list = remove_range xs from end in
     let front : take from list ≡ take from xs = take_at (take from xs) (drop end xs) from (length-take-le from xs within) in
     let reach : from + (to - from) ≡ to = omega arith in
-    let back : drop (wide + (to - from)) zs ≡ drop to list =
-    drop-further zs xs wide end (to - from) rest ∙ sym (drop-at_gap xs from end (to - from) within) ∙ ap (λ k. drop k list) reach in
-    ap (λ cs. cs ++ drop (wide + (to - from)) zs) written ∙ ap (λ cs. (take from xs ++ items) ++ cs) back ∙ append_assoc (take from xs) items (drop to list) ∙ ap (λ cs. cs ++ (items ++ drop to list)) (sym front)
+    let back : drop (wide + (to - from)) ws ≡ drop to list =
+    rest ∙ sym (drop-at_gap xs from end (to - from) within) ∙ ap (λ k. drop k list) reach in
+    ap (λ cs. cs ++ drop (wide + (to - from)) ws) written ∙ ap (λ cs. (take from xs ++ items) ++ cs) back ∙ append_assoc (take from xs) items (drop to list) ∙ ap (λ cs. cs ++ (items ++ drop to list)) (sym front)
 
 -- what holds anyway holds after an error
 pub OnErr-always : {T E P : Type 0} (r : Result T E) → P → OnErr r P

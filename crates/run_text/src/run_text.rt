@@ -2,8 +2,9 @@
 ghost use Rattle.std.specs.Prelude.{◌≡◌, ◌≤◌, [], ◌++◌, length, IfOk, OnOk, OnErr};
 ghost use Rattle.std.specs.List.{between, splice};
 
-use crate::gap::{make_room, move_gap, write_clones};
+use crate::gap::{fillers, make_room, move_gap, take_out, write_clones};
 use std::alloc::{AllocError, Global};
+use std::default::MadeWith;
 use std::marker::Model;
 
 /// A list of items that is edited near one place: a gap buffer.
@@ -11,8 +12,7 @@ use std::marker::Model;
 /// Its items lie in one `Vec` with a gap at the place of the last edit. An edit moves the gap to its own place and
 /// writes into it, so it costs the distance to the last edit and the items that come and go. Now and then the gap is
 /// widened, which costs the list's length, as where a `Vec` grows.
-/// The gap is filled with values that nobody reads: clones, and items that were removed, which stay there until
-/// others are written over them.
+/// The gap is filled with values that nobody reads, which `made_with` makes without memory.
 #[derive(Debug, Drop)]
 pub struct RunText<T> {
     cells: Vec<T>,
@@ -70,9 +70,9 @@ impl<T> RunText<T> {
     }
 }
 
-impl<T: Clone> RunText<T> {
-    /// Puts clones of the items in the place of those from `from` up to `to`, counted from 0, and answers clones of
-    /// the items that were there.
+impl<T: Clone + MadeWith<Global>> RunText<T> {
+    /// Puts clones of the items in the place of those from `from` up to `to`, counted from 0, and answers the items
+    /// that were there.
     pub fn splice(&mut self, from: usize, to: usize, items: &[T]) -> Result<Vec<T>, AllocError>
         requires in_order { from ≤ to }
         requires in_range { to ≤ length self.old }
@@ -81,18 +81,39 @@ impl<T: Clone> RunText<T> {
         ensures ok { OnOk result (self.new ≡ splice self.old from to items.now) }
         ensures err { OnErr result (self.new ≡ self.old) }
     {
-        // Until it is set to begin and end elsewhere, only the gap is written to, so that an error leaves the list.
+        // Until all memory is found, only the gap is written to, so that an error leaves the list.
         let width = self.end - self.start;
         move_gap(&mut self.cells, self.start, from, width);
         self.start = from;
         self.end = from + width;
-        let alloc = *self.cells.allocator();
         let count = to - from;
-        let removed = self.cells[self.end..self.end + count].to_vec(alloc)?;
-        self.end = make_room(&mut self.cells, from, self.end, items)?;
+        let mut removed = fillers(*self.cells.allocator(), count)?;
+        self.end = make_room(&mut self.cells, from, self.end, items.len())?;
         write_clones(&mut self.cells, from, items)?;
+        take_out(&mut self.cells, self.end, &mut removed);
         self.start = from + items.len();
         self.end += count;
         Ok(removed)
+    }
+}
+
+impl<T: Clone> Clone for RunText<T> {
+    ghost use Rattle.std.specs.Prelude.{◌≡◌};
+
+    // Where clones of items equal them, the clone is the same list.
+    ghost is_clone = { λ text clone. ((x y : T) → T.is_clone x y → y ≡ x) → clone ≡ text };
+
+    /// It clones the items alone, and its gap is empty.
+    fn clone(&self) -> Result<RunText<T>, AllocError> {
+        let len = self.len();
+        let (first, second) = self.slice(0, len);
+        let mut cells = Vec::with_capacity(*self.cells.allocator(), len)?;
+        cells.extend_with_clones(first)?;
+        cells.extend_with_clones(second)?;
+        Ok(RunText {
+            cells,
+            start: 0,
+            end: 0,
+        })
     }
 }
