@@ -8,6 +8,3 @@ mod printing;
 pub use clusters::units;
 pub use margins::width;
 pub use printing::row;
-
-#[cfg(test)]
-mod tests;

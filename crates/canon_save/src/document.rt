@@ -5,8 +5,8 @@ ghost use Rattle.std.specs.List.{AllByRecursion as Each, flat_map};
 ghost use Rattle.spelling_model.specs.Spelling.{canonical, head, opening, tail, block_bytes, IsWritten, IsWrittenBlock};
 
 use crate::paragraph::push_paragraph;
-use spelling_model::{BODY, ROOT, ROOT_END, TAIL};
 use doc_model::{Blob, Block, Document};
+use spelling_model::{BODY, ROOT, ROOT_END, TAIL};
 use std::alloc::{AllocError, Global};
 
 /// The canonical bytes of a document, as UTF-8. It takes time in proportion to the document, and one buffer that grows.

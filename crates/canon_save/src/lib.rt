@@ -5,6 +5,3 @@ mod document;
 mod paragraph;
 
 pub use document::save;
-
-#[cfg(test)]
-mod tests;

@@ -4,8 +4,8 @@ ghost use Rattle.std.specs.Prelude.{◌≡◌, ◌++◌, ◌&&◌, not, string_b
 ghost use Rattle.std.specs.List.{AllByRecursion as Each};
 ghost use Rattle.spelling_model.specs.Spelling.{paragraph_bytes, content_bytes, is_space, item_bytes, escaped, spaces, is_there, IsWrittenItem, IsWrittenPar};
 
-use spelling_model::{EMPTY_PARAGRAPH, PARAGRAPH, PARAGRAPH_END, SPACE, SPACES, SPACES_END};
 use doc_model::{Item, Par, What};
+use spelling_model::{EMPTY_PARAGRAPH, PARAGRAPH, PARAGRAPH_END, SPACE, SPACES, SPACES_END};
 use std::alloc::AllocError;
 
 /// Appends a paragraph.

@@ -1,4 +1,3 @@
-pub mod EmptyDocument
 pub mod Numbers
 pub mod PlainPasts
 pub mod Changes

@@ -20,11 +20,11 @@ use crate::live::live_paragraph;
 use crate::pages::page_reply;
 use crate::past::Past;
 use desk_model::{Command, Reply};
-use round_model::{Published, Taken};
 use doc_model::{Document, Group, List, ParId};
 use edit_ops::{EditFault, edited_by_group};
 use idle_queue::Agenda;
 use line_model::Formed;
+use round_model::{Published, Taken};
 use std::alloc::{AllocError, Global};
 use std::marker::Model;
 

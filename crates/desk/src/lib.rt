@@ -7,7 +7,5 @@ mod group;
 mod live;
 mod pages;
 mod past;
-#[cfg(test)]
-mod tests;
 
 pub use desk::Desk;

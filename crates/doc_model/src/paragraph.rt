@@ -7,7 +7,8 @@ use crate::field::{Field, NoteClass};
 use crate::spans::Spans;
 use crate::texts::Name;
 use sqlite_items::{Boxed, Items};
-use std::alloc::AllocError;
+use std::alloc::{AllocError, Global};
+use std::default::MadeWith;
 
 /// The number of a paragraph. The paragraphs of a loaded document are numbered from 1 in reading order;
 /// a number that was given once is never given to another paragraph.
@@ -105,6 +106,16 @@ pub struct ParHead {
     pub level: u8,
     /// The place in a list, if it stands in one.
     pub list: Option<ListPos>,
+}
+
+/// An item that takes no memory, for places of a list that nobody reads.
+impl MadeWith<Global> for Item {
+    fn made_with(alloc: Global) -> Item {
+        Item {
+            spans: Spans::none(alloc),
+            what: What::Tab,
+        }
+    }
 }
 
 impl ListPos {

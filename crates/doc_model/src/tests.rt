@@ -145,12 +145,14 @@ fn copy_answers(alloc: Global) -> Result<bool, AllocError> {
         list: None,
     };
     let prop = Prop::Display(Some(true));
-    Ok(refusal.copy()? == refusal
-        && pages.copy()? == pages
-        && table.copy()? == table
-        && label.copy()? == label
-        && head.copy()? == head
-        && prop.copy()? == prop)
+    Ok(
+        refusal.copy()? == refusal
+            && pages.copy()? == pages
+            && table.copy()? == table
+            && label.copy()? == label
+            && head.copy()? == head
+            && prop.copy()? == prop,
+    )
 }
 
 #[test]

@@ -3,4 +3,3 @@ pub mod Refusals
 pub mod Changes
 pub mod Runs
 pub mod Blocks
-pub mod Samples

@@ -8,6 +8,3 @@ mod items;
 
 pub use fault::EditFault;
 pub use group::edited_by_group;
-
-#[cfg(test)]
-mod tests;

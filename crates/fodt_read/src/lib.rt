@@ -11,6 +11,3 @@ mod paragraph;
 
 pub use fault::LoadFault;
 pub use load::load_plain;
-
-#[cfg(test)]
-mod tests;

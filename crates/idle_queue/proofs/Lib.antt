@@ -9,5 +9,3 @@ pub mod Starts
 pub mod Publishing
 pub mod Marks
 pub mod Settled
-pub mod EmptyDocument
-pub mod EmptyLines

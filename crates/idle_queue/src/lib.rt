@@ -8,6 +8,3 @@ mod stop;
 mod touched;
 
 pub use agenda::Agenda;
-
-#[cfg(test)]
-mod tests;

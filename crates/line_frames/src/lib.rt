@@ -5,6 +5,3 @@ mod line;
 mod lines;
 
 pub use lines::form;
-
-#[cfg(test)]
-mod tests;

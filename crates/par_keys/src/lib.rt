@@ -4,6 +4,3 @@
 mod keys;
 
 pub use keys::{key_of, text_of};
-
-#[cfg(test)]
-mod tests;

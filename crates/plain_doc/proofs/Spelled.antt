@@ -38,7 +38,7 @@ pub paragraph_bytes-plain : (number : ℕ) (text : List ℕ) → paragraph_bytes
 paragraph_bytes-plain number [] = simp out-roll-Par
 paragraph_bytes-plain number (c ∷ cs) =
     rw (out-roll-Par (record { id = record { 0 = number }; style = []; level = 0; list = None; items = map plain_item (c ∷ cs) }))
-      (ap (λ (bytes : List ℕ). paragraph_start ++ bytes ++ paragraph_end) (content_bytes-plain (c ∷ cs)))
+    (ap (λ (bytes : List ℕ). paragraph_start ++ bytes ++ paragraph_end) (content_bytes-plain (c ∷ cs)))
 
 pub flat_map-block_bytes-plain : (number : ℕ) (texts : List (List ℕ)) → flat_map block_bytes (plain_blocks number texts) ≡ flat_map plain_paragraph_bytes texts
 flat_map-block_bytes-plain number [] = refl

@@ -9,6 +9,3 @@ mod steps;
 mod words;
 
 pub use lone::{Status, quill_lone};
-
-#[cfg(test)]
-mod tests;

@@ -19,6 +19,3 @@ mod texts;
 pub use operations::print_op;
 pub use replies::{push_no_job, push_reply, push_settled};
 pub use script::{ScriptFault, read_script};
-
-#[cfg(test)]
-mod tests;

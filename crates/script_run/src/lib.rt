@@ -4,6 +4,3 @@
 mod run;
 
 pub use run::run_script;
-
-#[cfg(test)]
-mod tests;

@@ -11,11 +11,11 @@ ghost use Rattle.script_run.specs.PlainScript.{IsPlainScriptCommand};
 
 use desk::Desk;
 use desk_model::{Numbered, Reply, ScriptCommand};
-use round_model::Taken;
 use doc_model::{Document, Name};
 use indexmap::IndexMap;
 use line_frames::form;
 use line_model::Job;
+use round_model::Taken;
 use script_lang::{push_no_job, push_reply, push_settled};
 use std::alloc::{AllocError, Global};
 use std::marker::Model;

@@ -105,37 +105,37 @@ content-pieces waiting after_word before [] each e = sym (ap (λ (n : ℕ). spac
 content-pieces waiting after_word before (item ∷ items) each e =
     by_need (content-pieces (waiting + 1) false (item ∷ before) items each.1) (content-pieces 0 (not (is_space item)) (item ∷ before) items each.1)
     (is_space item && not (may_stand after_word items)) refl where
-  place : Placed
-  place = record { before = before; item = item; after = items }
+      place : Placed
+      place = record { before = before; item = item; after = items }
 
-  more : List Piece
-  more = pieces_of (placed (item ∷ before) items)
+      more : List Piece
+      more = pieces_of (placed (item ∷ before) items)
 
-  stands : stands_for_itself place ≡ may_stand after_word items
-  stands = rw (e, without_marks-written items each.1) refl
+      stands : stands_for_itself place ≡ may_stand after_word items
+      stands = rw (e, without_marks-written items each.1) refl
 
-  word : is_word (without_marks (item ∷ before)) ≡ not (is_space item)
-  word = rw (no_mark item each.0) refl
+      word : is_word (without_marks (item ∷ before)) ≡ not (is_space item)
+      word = rw (no_mark item each.0) refl
 
-  by_need : (is_word (without_marks (item ∷ before)) ≡ false → content (waiting + 1) false items ≡ spaces (waiting + 1 + front more) ++ behind more)
-      → (is_word (without_marks (item ∷ before)) ≡ not (is_space item) → content 0 (not (is_space item)) items ≡ spaces (0 + front more) ++ behind more)
-      → (need : Bool) → (is_space item && not (may_stand after_word items)) ≡ need
-      → content waiting after_word (item ∷ items) ≡ spaces (waiting + front (pieces_of (placed before (item ∷ items)))) ++ behind (pieces_of (placed before (item ∷ items)))
-  by_need waits stays true needed =
-      let joined : pieces_of (placed before (item ∷ items)) ≡ behind_space [] more = rw (stands, needed) (ap (λ (spans : List (List ℕ)). behind_space spans more) each.0.1) in
-      let here : content waiting after_word (item ∷ items) ≡ content (waiting + 1) false items = rw needed refl in
-      let after : is_word (without_marks (item ∷ before)) ≡ false = word ∙ ap not (space_of (is_space item) (not (may_stand after_word items)) needed) in
-      here ∙ waits after
-      ∙ rw (joined, front-behind_space more (bare-pieces (item ∷ before) items each.1), behind-behind_space more (bare-pieces (item ∷ before) items each.1))
+      by_need : (is_word (without_marks (item ∷ before)) ≡ false → content (waiting + 1) false items ≡ spaces (waiting + 1 + front more) ++ behind more)
+          → (is_word (without_marks (item ∷ before)) ≡ not (is_space item) → content 0 (not (is_space item)) items ≡ spaces (0 + front more) ++ behind more)
+          → (need : Bool) → (is_space item && not (may_stand after_word items)) ≡ need
+          → content waiting after_word (item ∷ items) ≡ spaces (waiting + front (pieces_of (placed before (item ∷ items)))) ++ behind (pieces_of (placed before (item ∷ items)))
+      by_need waits stays true needed =
+          let joined : pieces_of (placed before (item ∷ items)) ≡ behind_space [] more = rw (stands, needed) (ap (λ (spans : List (List ℕ)). behind_space spans more) each.0.1) in
+          let here : content waiting after_word (item ∷ items) ≡ content (waiting + 1) false items = rw needed refl in
+          let after : is_word (without_marks (item ∷ before)) ≡ false = word ∙ ap not (space_of (is_space item) (not (may_stand after_word items)) needed) in
+          here ∙ waits after
+          ∙ rw (joined, front-behind_space more (bare-pieces (item ∷ before) items each.1), behind-behind_space more (bare-pieces (item ∷ before) items each.1))
           (ap (λ (n : ℕ). spaces n ++ behind more) (omega arith))
-  by_need waits stays false needless =
-      let apart : pieces_of (placed before (item ∷ items)) ≡ As item ∷ more = rw (stands, needless) refl in
-      let here : content waiting after_word (item ∷ items) ≡ spaces waiting ++ item_bytes item ++ content 0 (not (is_space item)) items = rw needless refl in
-      let rest : content 0 (not (is_space item)) items ≡ flat_map piece_bytes more =
-      stays word ∙ ap (λ (n : ℕ). spaces n ++ behind more) (omega arith) ∙ sym (front_behind more) in
-      let none : waiting ≡ waiting + 0 = omega arith in
-      here ∙ ap (λ (bytes : List ℕ). spaces waiting ++ item_bytes item ++ bytes) rest ∙ append_assoc (spaces waiting) (item_bytes item) (flat_map piece_bytes more)
-      ∙ rw apart (ap (λ (n : ℕ). spaces n ++ (item_bytes item ++ flat_map piece_bytes more)) none)
+      by_need waits stays false needless =
+          let apart : pieces_of (placed before (item ∷ items)) ≡ As item ∷ more = rw (stands, needless) refl in
+          let here : content waiting after_word (item ∷ items) ≡ spaces waiting ++ item_bytes item ++ content 0 (not (is_space item)) items = rw needless refl in
+          let rest : content 0 (not (is_space item)) items ≡ flat_map piece_bytes more =
+          stays word ∙ ap (λ (n : ℕ). spaces n ++ behind more) (omega arith) ∙ sym (front_behind more) in
+          let none : waiting ≡ waiting + 0 = omega arith in
+          here ∙ ap (λ (bytes : List ℕ). spaces waiting ++ item_bytes item ++ bytes) rest ∙ append_assoc (spaces waiting) (item_bytes item) (flat_map piece_bytes more)
+          ∙ rw apart (ap (λ (n : ℕ). spaces n ++ (item_bytes item ++ flat_map piece_bytes more)) none)
 
 -- the content of items that are written, for who writes it from front to back
 pub content_written : (items : List Item) → Each IsWrittenItem items → content 0 false items ≡ content_bytes items
