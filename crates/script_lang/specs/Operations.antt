@@ -13,7 +13,7 @@ insertion_words par at text = codes "insert " ++ (decimal par ++ (codes " " ++ (
 abbrev pub deletion_words : ℕ → ℕ → ℕ → List ℕ
 deletion_words par from to = codes "delete " ++ (decimal par ++ (codes " " ++ (decimal from ++ (codes " " ++ decimal to))))
 
--- the line of an edit; edits that no line asks for have an empty one
+-- the line of an edit that has one
 abbrev pub edit_words : EditOp → List ℕ
 edit_words (InsertText par at text) = insertion_words par.0 at text
 edit_words (DeleteRange par from to) = deletion_words par.0 from to

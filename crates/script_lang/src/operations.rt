@@ -13,17 +13,17 @@ use std::alloc::{AllocError, Global};
 
 /// Prints an edit as a line of a script, without a line feed.
 ///
-/// Only insertions of texts and deletions of ranges have lines so far; for any other edit the line is empty. A deletion's
-/// line is read as that deletion. So is an insertion's, where its text has a character, and none but those of U+20 to U+7E;
-/// otherwise its line is no command.
+/// Only insertions of texts and deletions of ranges have lines so far; a text that is inserted has a character, and none but
+/// those of U+20 to U+7E.
 pub fn print_op(alloc: Global, op: &EditOp) -> Result<Txt, AllocError>
+    requires { HasLine op.now }
     ensures printed { IfOk result (λ line. encode_utf8_all line ≡ edit_words op.now) }
-    ensures read_back { IfOk result (λ line. HasLine op.now → IsEditLine (encode_utf8_all line) op.now) }
+    ensures read_back { IfOk result (λ line. IsEditLine (encode_utf8_all line) op.now) }
 {
     match op {
         EditOp::InsertText { par, at, text } => print_insertion(alloc, par.0, *at, text.get()),
         EditOp::DeleteRange { par, from, to } => print_deletion(alloc, par.0, *from, *to),
-        _ => Ok(Txt::none(alloc)),
+        _ => unreachable!(),
     }
 }
 
