@@ -1,1 +1,4 @@
 pub mod Effective
+pub mod Lengths
+pub mod Dims
+pub mod Masters
