@@ -1,0 +1,4 @@
+mod Items
+mod Halves
+mod Numbers
+mod Sections
