@@ -1,1 +1,3 @@
+pub mod Lineage
 pub mod Effective
+pub mod Changes
