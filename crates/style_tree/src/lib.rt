@@ -1,0 +1,13 @@
+//! The styles of a document: a list that is shared without copying it, with an index by family and name.
+#![tactic(auto)]
+
+mod index;
+mod kept;
+mod lineage;
+mod parts;
+mod places;
+mod refusal;
+mod style_tree;
+
+pub use refusal::StyleRefusal;
+pub use style_tree::StyleTree;
