@@ -4,3 +4,4 @@ pub mod Moves
 pub mod Marks
 pub mod Finding
 pub mod Noted
+pub mod Along

@@ -6,8 +6,11 @@ mod kept;
 mod lineage;
 mod parts;
 mod places;
+mod props;
 mod refusal;
+mod stated;
 mod style_tree;
 
 pub use refusal::StyleRefusal;
+pub use stated::Stated;
 pub use style_tree::StyleTree;

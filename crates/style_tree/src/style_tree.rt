@@ -101,6 +101,10 @@ impl StyleTree {
         &self.defaults
     }
 
+    pub(crate) fn allocator(&self) -> Global {
+        self.alloc
+    }
+
     // The style of a family and name.
     #[tactic(auto, using(crate::proofs::Noted::named_none, crate::proofs::Noted::named_some, crate::proofs::Noted::named_within))]
     pub(crate) fn style_named(&self, family: Family, name: &Name) -> Option<&Style>
