@@ -1,10 +1,9 @@
 //! The tree of a document's elements.
 
-use markup_tags::{Attrs, Word};
-use sqlite_items::{Boxed, Items};
+use crate::nodes::Nodes;
+use crate::words::{Attrs, Word};
 
 /// An element.
-#[cycle(node)]
 #[derive(Debug, Drop)]
 pub struct Elem {
     /// The place of the `<` of its tag, in bytes from 0.
@@ -14,17 +13,7 @@ pub struct Elem {
     /// The attributes in their order.
     pub attrs: Attrs,
     /// What it holds, in its order.
-    pub nodes: Items<Node>,
-}
-
-/// A child of an element. The element stands apart, so that a character takes 16 bytes.
-#[cycle(node)]
-#[derive(Debug, Drop)]
-pub enum Node {
-    /// An element.
-    Elem(Boxed<Elem>),
-    /// A character.
-    Char(char),
+    pub nodes: Nodes<Elem>,
 }
 
 /// The tree of a document. Comments, instructions and what stands outside the root are not in it.

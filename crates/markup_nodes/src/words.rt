@@ -1,10 +1,11 @@
-//! Names, values and attributes.
+//! Names, values, runs of characters and attributes.
 
-ghost use Rattle.std.specs.Prelude.{◌≡◌, chars, string_bytes};
+ghost use Rattle.std.specs.Prelude.{◌≡◌, [], ◌∷◌, ◌++◌, chars, string_bytes, OnOk, OnErr, IsTrue, ◌↔◌};
 
+use std::alloc::{AllocError, Global};
 use std::marker::Model;
 
-/// A name or a value, which contracts see as the list of its characters.
+/// A name, a value or a run of characters, which contracts see as the list of its characters.
 #[derive(Debug, Drop)]
 pub struct Word {
     text: String,
@@ -19,6 +20,15 @@ impl Model for Word {
 }
 
 impl Word {
+    /// A word without a character. It takes no memory.
+    pub fn new(alloc: Global) -> Word
+        ensures { result ≡ [] }
+    {
+        Word {
+            text: String::new(alloc),
+        }
+    }
+
     /// The text as a word. It takes no memory.
     pub fn from_text(text: String) -> Word
         ensures { result ≡ chars (string_bytes text) }
@@ -31,6 +41,29 @@ impl Word {
         ensures { chars result.now ≡ self.now }
     {
         self.text.as_str()
+    }
+
+    /// Whether it has no character.
+    pub fn is_empty(&self) -> bool
+        ensures { IsTrue result ↔ (self.now ≡ []) }
+    {
+        self.text.is_empty()
+    }
+
+    /// Adds a text at the end. For want of memory the word stays as it was.
+    pub fn push_str(&mut self, text: &str) -> Result<(), AllocError>
+        ensures ok { OnOk result (self.new ≡ self.old ++ chars text.now) }
+        ensures err { OnErr result (self.new ≡ self.old) }
+    {
+        self.text.push_str(text)
+    }
+
+    /// Adds a character at the end. For want of memory the word stays as it was.
+    pub fn push(&mut self, c: char) -> Result<(), AllocError>
+        ensures ok { OnOk result (self.new ≡ self.old ++ c ∷ []) }
+        ensures err { OnErr result (self.new ≡ self.old) }
+    {
+        self.text.push(c)
     }
 }
 
@@ -52,7 +85,7 @@ pub struct Attrs {
 impl Model for Attrs {
     ghost use Rattle.std.specs.Prelude.{List};
     ghost use Rattle.std.specs.Coded.{coded_list};
-    ghost use Rattle.markup_tags.specs.declared.words.Attr.{Attr};
+    ghost use Rattle.markup_nodes.specs.declared.words.Attr.{Attr};
 
     ghost Value = { List Attr };
 
