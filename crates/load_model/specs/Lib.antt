@@ -1,0 +1,4 @@
+pub mod Names
+pub mod Values
+pub mod Left
+pub mod Styles

@@ -1,0 +1,8 @@
+//! Loading: how a tree of markup is read as a document, as definitions, and the names that are known of OpenDocument.
+#![tactic(auto)]
+
+mod element;
+mod names;
+
+pub use element::{Attribute, Attributes, Element};
+pub use names::{Key, Tag};
