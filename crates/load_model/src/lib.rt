@@ -3,6 +3,8 @@
 
 mod element;
 mod names;
+mod offence;
 
 pub use element::{Attribute, Attributes, Element};
 pub use names::{Key, Tag};
+pub use offence::{TreeOffence, TreeOffenceKind};
