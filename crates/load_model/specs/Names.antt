@@ -1,0 +1,333 @@
+-- Expanded names (Namespaces in XML 1.0): what a name means by the prefixes that the elements around it declare.
+use Rattle.std.specs.Prelude.{ℕ, ◌==◌, ◌&&◌, ◌||◌, not, Bool, true, false, if◌then◌else◌, List, [], ◌∷◌, ◌++◌, map, filter_map, find, codes, Option, Some, None, option_map, is_none, unwrap_or}
+use Rattle.std.specs.List.{list_any, before_first, after_first, flat_map}
+use Rattle.std.specs.Option.{option_and_then}
+use Rattle.std.specs.Str.{bytes_eq}
+use Rattle.markup_nodes.specs.declared.words.Attr.{Attr}
+use Rattle.markup_nodes.specs.declared.tree.Elem.{Elem}
+use Rattle.markup_nodes.specs.declared.tree.Elem.TheOpen.{Elem-F}
+use Rattle.markup_nodes.specs.declared.tree.Elem.TheFolds.{fold-Elem}
+use Rattle.markup_nodes.specs.Node.{Node, Element, Char}
+use Rattle.markup_nodes.specs.Nodes.{elems}
+use Rattle.load_model.specs.declared.names.Tag.{Tag}
+use Rattle.load_model.specs.declared.names.Tag.TheVariants as tag
+use Rattle.load_model.specs.declared.names.Key.{Key}
+use Rattle.load_model.specs.declared.names.Key.TheVariants as key
+use Rattle.load_model.specs.declared.element.Attribute.{Attribute}
+use Rattle.load_model.specs.declared.element.Element.{Element as Read, roll-Element}
+
+-- a name cut at its first colon: the prefix, if there is a colon, and the local name
+pub record Cut : Type 0 where
+  pub prefix : Option (List ℕ)
+  pub local_name : List ℕ
+
+-- whether a character is a colon
+abbrev pub is_colon : ℕ → Bool
+is_colon c = c == 0x3a
+
+-- a name, cut
+abbrev pub cut_name : List ℕ → Cut
+cut_name name =
+    if list_any is_colon name
+    then record { prefix = Some (before_first is_colon name); local_name = after_first is_colon name }
+    else record { prefix = None; local_name = name }
+
+-- a prefix, or none, with the namespace that it stands for; the empty one takes a declaration around it away
+pub record Binding : Type 0 where
+  pub prefix : Option (List ℕ)
+  pub namespace : List ℕ
+
+-- an expanded name: a namespace, or none, and a local name
+pub record Expanded : Type 0 where
+  pub namespace : List ℕ
+  pub local_name : List ℕ
+
+-- the namespaces of the prefixes that need no declaration
+abbrev pub xml_namespace : List ℕ
+xml_namespace = codes "http://www.w3.org/XML/1998/namespace"
+
+abbrev pub declarations_namespace : List ℕ
+declarations_namespace = codes "http://www.w3.org/2000/xmlns/"
+
+-- whether a prefix can be declared: it isn't empty, and neither 'xml' nor 'xmlns'
+abbrev pub can_be_declared : List ℕ → Bool
+can_be_declared prefix = not (bytes_eq prefix []) && not (bytes_eq prefix (codes "xml")) && not (bytes_eq prefix (codes "xmlns"))
+
+-- whether two prefixes are the same
+abbrev pub is_same_prefix : Option (List ℕ) → Option (List ℕ) → Bool
+is_same_prefix None None = true
+is_same_prefix (Some prefix) (Some other) = bytes_eq prefix other
+is_same_prefix _ _ = false
+
+-- what an attribute declares, if it declares something: 'xmlns' the namespace of names without a prefix, 'xmlns:p' that of p
+abbrev pub declared_by : Attr → List Binding
+declared_by attr = of_name (cut_name attr.name) where
+  of_name : Cut → List Binding
+  of_name name =
+      if bytes_eq attr.name (codes "xmlns") then record { prefix = None; namespace = attr.value } ∷ []
+      else if is_same_prefix name.prefix (Some (codes "xmlns")) && can_be_declared name.local_name then record { prefix = Some name.local_name; namespace = attr.value } ∷ []
+      else []
+
+-- what holds within an element with these attributes: its own declarations, and then those around it
+abbrev pub bindings_within : List Attr → List Binding → List Binding
+bindings_within attrs around = flat_map declared_by attrs ++ around
+
+-- the namespace of a prefix that is bound: none where its declaration was taken away
+abbrev pub bound_namespace : Option (List ℕ) → List Binding → Option (List ℕ)
+bound_namespace prefix bindings = option_and_then (λ binding. if bytes_eq binding.namespace [] then None else Some binding.namespace) (find (λ binding. is_same_prefix binding.prefix prefix) bindings)
+
+-- the namespace of a prefix, or nothing where it is undeclared
+abbrev pub namespace_of : List ℕ → List Binding → Option (List ℕ)
+namespace_of prefix bindings =
+    if bytes_eq prefix (codes "xml") then Some xml_namespace
+    else if can_be_declared prefix then bound_namespace (Some prefix) bindings
+    else None
+
+-- the expanded name of an element, or nothing where its prefix is undeclared
+abbrev pub element_name : List ℕ → List Binding → Option Expanded
+element_name name bindings = of_cut (cut_name name) where
+  of_prefix : Option (List ℕ) → Option (List ℕ)
+  of_prefix None = Some (unwrap_or (bound_namespace None bindings) [])
+  of_prefix (Some prefix) = namespace_of prefix bindings
+
+  of_cut : Cut → Option Expanded
+  of_cut cut = option_map (λ namespace. record { namespace = namespace; local_name = cut.local_name }) (of_prefix cut.prefix)
+
+-- whether an attribute's name is that of a declaration
+abbrev pub is_declaration : List ℕ → Bool
+is_declaration name = bytes_eq name (codes "xmlns") || is_same_prefix (cut_name name).prefix (Some (codes "xmlns"))
+
+-- the expanded name of an attribute, or nothing where its prefix is undeclared. One without a prefix has no namespace
+abbrev pub attribute_name : List ℕ → List Binding → Option Expanded
+attribute_name name bindings = if is_declaration name then Some (record { namespace = declarations_namespace; local_name = (cut_name name).local_name }) else of_cut (cut_name name) where
+  of_prefix : Option (List ℕ) → Option (List ℕ)
+  of_prefix None = Some []
+  of_prefix (Some prefix) = namespace_of prefix bindings
+
+  of_cut : Cut → Option Expanded
+  of_cut cut = option_map (λ namespace. record { namespace = namespace; local_name = cut.local_name }) (of_prefix cut.prefix)
+
+-- whether two expanded names are the same
+abbrev pub is_same_name : Expanded → Expanded → Bool
+is_same_name name other = bytes_eq name.namespace other.namespace && bytes_eq name.local_name other.local_name
+
+-- whether a name stands twice in a list
+abbrev pub has_twice : List Expanded → Bool
+has_twice [] = false
+has_twice (name ∷ names) = list_any (is_same_name name) names || has_twice names
+
+-- the namespaces of OpenDocument that are read
+abbrev pub open_document : List ℕ → List ℕ
+open_document word = codes "urn:oasis:names:tc:opendocument:xmlns:" ++ (word ++ codes ":1.0")
+
+abbrev pub office : List ℕ
+office = open_document (codes "office")
+
+abbrev pub style : List ℕ
+style = open_document (codes "style")
+
+abbrev pub text : List ℕ
+text = open_document (codes "text")
+
+abbrev pub table : List ℕ
+table = open_document (codes "table")
+
+abbrev pub draw : List ℕ
+draw = open_document (codes "drawing")
+
+abbrev pub fo : List ℕ
+fo = open_document (codes "xsl-fo-compatible")
+
+abbrev pub xlink : List ℕ
+xlink = codes "http://www.w3.org/1999/xlink"
+
+-- a name that is read, with what it is
+pub record Known (X : Type 0) : Type 0 where
+  pub name : Expanded
+  pub is : X
+
+-- a name of a namespace
+abbrev pub known : {X : Type 0} → List ℕ → List ℕ → X → Known X
+known namespace local_name is = record { name = record { namespace = namespace; local_name = local_name }; is = is }
+
+-- the elements that are read
+unfoldable pub known_tags : List (Known Tag)
+known_tags =
+    known office (codes "document") tag.Document
+    ∷ known office (codes "styles") tag.CommonStyles
+    ∷ known office (codes "automatic-styles") tag.AutomaticStyles
+    ∷ known office (codes "master-styles") tag.MasterStyles
+    ∷ known office (codes "body") tag.Body
+    ∷ known office (codes "text") tag.Text
+    ∷ known style (codes "default-style") tag.DefaultStyle
+    ∷ known style (codes "style") tag.Style
+    ∷ known style (codes "paragraph-properties") tag.ParagraphProperties
+    ∷ known style (codes "text-properties") tag.TextProperties
+    ∷ known style (codes "page-layout") tag.PageLayout
+    ∷ known style (codes "page-layout-properties") tag.PageLayoutProperties
+    ∷ known style (codes "master-page") tag.MasterPage
+    ∷ known style (codes "header") tag.Header
+    ∷ known style (codes "footer") tag.Footer
+    ∷ known text (codes "list-style") tag.ListStyle
+    ∷ known text (codes "outline-style") tag.OutlineStyle
+    ∷ known text (codes "list-level-style-number") tag.NumberLevel
+    ∷ known text (codes "list-level-style-bullet") tag.BulletLevel
+    ∷ known text (codes "outline-level-style") tag.OutlineLevel
+    ∷ known text (codes "variable-decls") tag.VariableDeclarations
+    ∷ known text (codes "variable-decl") tag.VariableDeclaration
+    ∷ known text (codes "sequence-decls") tag.SequenceDeclarations
+    ∷ known text (codes "sequence-decl") tag.SequenceDeclaration
+    ∷ known text (codes "p") tag.Paragraph
+    ∷ known text (codes "h") tag.Heading
+    ∷ known text (codes "list") tag.List
+    ∷ known text (codes "list-item") tag.ListItem
+    ∷ known text (codes "list-header") tag.ListHeader
+    ∷ known text (codes "section") tag.Section
+    ∷ known text (codes "section-source") tag.SectionSource
+    ∷ known text (codes "table-of-content") tag.Index
+    ∷ known text (codes "illustration-index") tag.Index
+    ∷ known text (codes "table-index") tag.Index
+    ∷ known text (codes "object-index") tag.Index
+    ∷ known text (codes "user-index") tag.Index
+    ∷ known text (codes "alphabetical-index") tag.Index
+    ∷ known text (codes "bibliography") tag.Index
+    ∷ known text (codes "index-body") tag.Index
+    ∷ known text (codes "index-title") tag.Index
+    ∷ known text (codes "numbered-paragraph") tag.Index
+    ∷ known text (codes "span") tag.Span
+    ∷ known text (codes "s") tag.Spaces
+    ∷ known text (codes "tab") tag.Tab
+    ∷ known text (codes "line-break") tag.LineBreak
+    ∷ known text (codes "note") tag.Note
+    ∷ known text (codes "note-citation") tag.NoteCitation
+    ∷ known text (codes "note-body") tag.NoteBody
+    ∷ known text (codes "sequence") tag.Sequence
+    ∷ known text (codes "variable-set") tag.VariableSet
+    ∷ known text (codes "variable-get") tag.VariableGet
+    ∷ known text (codes "chapter") tag.Chapter
+    ∷ known text (codes "page-number") tag.PageNumber
+    ∷ known text (codes "page-count") tag.PageCount
+    ∷ known text (codes "bookmark-ref") tag.BookmarkReference
+    ∷ known text (codes "sequence-ref") tag.SequenceReference
+    ∷ known text (codes "note-ref") tag.NoteReference
+    ∷ known text (codes "bookmark") tag.Bookmark
+    ∷ known text (codes "bookmark-start") tag.BookmarkStart
+    ∷ known text (codes "bookmark-end") tag.BookmarkEnd
+    ∷ known text (codes "ruby-text") tag.RubyText
+    ∷ known table (codes "table") tag.Table
+    ∷ []
+
+-- the attributes that are read, and those that are left out without being counted
+unfoldable pub known_keys : List (Known Key)
+known_keys =
+    known office (codes "version") key.Uncounted
+    ∷ known office (codes "value-type") key.Uncounted
+    ∷ known text (codes "display-outline-level") key.Uncounted
+    ∷ known office (codes "mimetype") key.Mimetype
+    ∷ known text (codes "global") key.Global
+    ∷ known style (codes "name") key.Name
+    ∷ known style (codes "family") key.Family
+    ∷ known style (codes "parent-style-name") key.Parent
+    ∷ known style (codes "next-style-name") key.Next
+    ∷ known style (codes "master-page-name") key.Master
+    ∷ known style (codes "default-outline-level") key.DefaultOutlineLevel
+    ∷ known fo (codes "margin") key.Margin
+    ∷ known fo (codes "margin-left") key.MarginLeft
+    ∷ known fo (codes "margin-right") key.MarginRight
+    ∷ known fo (codes "margin-top") key.MarginTop
+    ∷ known fo (codes "margin-bottom") key.MarginBottom
+    ∷ known fo (codes "text-indent") key.Indent
+    ∷ known fo (codes "text-align") key.Align
+    ∷ known fo (codes "break-before") key.BreakBefore
+    ∷ known fo (codes "break-after") key.BreakAfter
+    ∷ known fo (codes "keep-with-next") key.KeepNext
+    ∷ known fo (codes "keep-together") key.KeepTogether
+    ∷ known fo (codes "widows") key.Widows
+    ∷ known fo (codes "orphans") key.Orphans
+    ∷ known style (codes "page-number") key.PageNumber
+    ∷ known text (codes "display") key.Display
+    ∷ known fo (codes "page-width") key.PageWidth
+    ∷ known fo (codes "page-height") key.PageHeight
+    ∷ known style (codes "page-layout-name") key.Layout
+    ∷ known text (codes "level") key.Level
+    ∷ known style (codes "num-format") key.NumberFormat
+    ∷ known style (codes "num-prefix") key.NumberPrefix
+    ∷ known style (codes "num-suffix") key.NumberSuffix
+    ∷ known text (codes "start-value") key.StartValue
+    ∷ known text (codes "display-levels") key.DisplayLevels
+    ∷ known text (codes "bullet-char") key.BulletChar
+    ∷ known text (codes "name") key.TextName
+    ∷ known text (codes "style-name") key.StyleName
+    ∷ known text (codes "outline-level") key.OutlineLevel
+    ∷ known text (codes "protected") key.Protected
+    ∷ known xlink (codes "href") key.Href
+    ∷ known text (codes "section-name") key.SectionName
+    ∷ known text (codes "id") key.Id
+    ∷ known text (codes "note-class") key.NoteClass
+    ∷ known text (codes "ref-name") key.ReferenceName
+    ∷ known text (codes "reference-format") key.ReferenceFormat
+    ∷ known text (codes "c") key.Count
+    ∷ known text (codes "continue-numbering") key.ContinueNumbering
+    ∷ known text (codes "select-page") key.SelectPage
+    ∷ known text (codes "page-adjust") key.PageAdjust
+    ∷ []
+
+-- what a name is among those that are known
+abbrev pub what_is : {X : Type 0} → Expanded → List (Known X) → Option X
+what_is name known = option_map (λ entry. entry.is) (find (λ entry. is_same_name entry.name name) known)
+
+-- what an element is that has no rule of its own: those of office and draw are told from others
+abbrev pub unknown_tag : Expanded → Tag
+unknown_tag name = if bytes_eq name.namespace office || bytes_eq name.namespace draw then tag.Foreign else tag.Other
+
+-- what an element is; one of an undeclared prefix has no rule
+abbrev pub tag_of : Option Expanded → Tag
+tag_of None = tag.Other
+tag_of (Some name) = unwrap_or (what_is name known_tags) (unknown_tag name)
+
+-- what an attribute is
+abbrev pub key_of : Option Expanded → Key
+key_of None = key.Other
+key_of (Some name) = if bytes_eq name.namespace declarations_namespace then key.Uncounted else unwrap_or (what_is name known_keys) key.Other
+
+-- an attribute, resolved
+abbrev pub resolved_attribute : List Binding → Attr → Attribute
+resolved_attribute bindings attr = record { key = key_of (attribute_name attr.name bindings); text = attr.value }
+
+-- a node with its element resolved
+abbrev pub resolved_node : List Binding → Node (List Binding → Read) → Node Read
+resolved_node bindings (Element resolve) = Element (resolve bindings)
+resolved_node bindings (Char c) = Char c
+
+-- an element, resolved where these prefixes are bound around it
+abbrev pub resolved_in : Elem → List Binding → Read
+resolved_in = fold-Elem (List Binding → Read) of_elem where
+  within : Elem-F (List Binding → Read) → List Binding → Read
+  within elem bindings = roll-Element (record {
+    place = elem.place;
+    tag = tag_of (element_name elem.name bindings);
+    attributes = map (resolved_attribute bindings) elem.attrs;
+    nodes = map (resolved_node bindings) elem.nodes;
+  })
+
+  of_elem : Elem-F (List Binding → Read) → List Binding → Read
+  of_elem elem around = within elem (bindings_within elem.attrs around)
+
+-- the root, resolved: nothing is bound around it
+abbrev pub resolved : Elem → Read
+resolved root = resolved_in root []
+
+-- whether the names of an element go against the rules of namespaces: a prefix is undeclared, or two attributes have one expanded name
+abbrev pub has_bad_names : List ℕ → List Attr → List Binding → Bool
+has_bad_names name attrs bindings =
+    is_none (element_name name bindings) || list_any (λ attr. is_none (attribute_name attr.name bindings)) attrs
+    || has_twice (filter_map (λ attr. attribute_name attr.name bindings) attrs)
+
+-- the places of the elements of which this holds, in the order of the file
+abbrev pub places_of_bad_names : Elem → List Binding → List ℕ
+places_of_bad_names = fold-Elem (List Binding → List ℕ) of_elem where
+  own : Elem-F (List Binding → List ℕ) → List Binding → List ℕ
+  own elem bindings = if has_bad_names elem.name elem.attrs bindings then elem.place ∷ [] else []
+
+  of_elem : Elem-F (List Binding → List ℕ) → List Binding → List ℕ
+  of_elem elem around = own elem (bindings_within elem.attrs around) ++ flat_map (λ inner. inner (bindings_within elem.attrs around)) (elems elem.nodes)
