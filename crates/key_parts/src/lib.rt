@@ -7,3 +7,6 @@ mod shown;
 
 pub use keys::key_of;
 pub use parts::{KeyParts, Shown, SpanDisplay};
+
+#[cfg(test)]
+mod tests;
