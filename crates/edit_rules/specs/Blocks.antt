@@ -17,7 +17,7 @@ use Rattle.doc_model.specs.declared.style.Family.TheVariants as family
 use Rattle.doc_model.specs.declared.style.Style.{Style}
 use Rattle.doc_model.specs.declared.document.Document.{Document}
 use Rattle.doc_model.specs.Reading.{number_of}
-use Rattle.style_model.specs.Effective.{style_named}
+use Rattle.style_model.specs.Lineage.{style_named}
 use Rattle.edit_rules.specs.Places.{from_first, through_first, as_block, paragraph_of, is_paragraph, held_between}
 
 -- the item with a change made to the paragraphs of its note, if it is one

@@ -15,7 +15,7 @@ use Rattle.doc_model.specs.declared.edit.EditOp.TheVariants.{InsertText, DeleteR
 use Rattle.doc_model.specs.declared.document.Document.{Document}
 use Rattle.edit_rules.specs.Texts.{with_paragraph, with_items, with_text, without_range, with_spans, spans_of, with_item, with_bookmark, without_bookmark}
 use Rattle.edit_rules.specs.Blocks.{in_containers, at_paragraph, split_first, join_first, moved, wrap_through, unwrapped, with_section_set}
-use Rattle.edit_rules.specs.Styles.{with_style_changed, with_style, without_style, with_property}
+use Rattle.style_model.specs.Changes.{with_style, without_style, with_change, with_parent, with_style_prop}
 
 -- a document and the least paragraph number that was never given
 pub record Edited : Type 0 where
@@ -59,8 +59,8 @@ edited_document next (UnwrapSection name) doc = in_containers (flat_map (unwrapp
 edited_document next (SetSection name protected hidden) doc = record doc { body = map (with_section_set name protected hidden) doc.body }
 edited_document next (DefineStyle style) doc = with_styles (with_style style) doc
 edited_document next (RemoveStyle family name) doc = with_styles (without_style family name) doc
-edited_document next (SetParent family name parent) doc = with_styles (with_style_changed family name (λ style. record style { parent = parent })) doc
-edited_document next (SetProp family name prop) doc = with_styles (with_style_changed family name (λ style. record style { props = with_property prop style.props })) doc
+edited_document next (SetParent family name parent) doc = with_styles (with_change family name (with_parent parent)) doc
+edited_document next (SetProp family name prop) doc = with_styles (with_change family name (with_style_prop prop)) doc
 edited_document next (AddDecl kind name) doc = with_declared kind name doc
 
 -- how many paragraph numbers an operation gives

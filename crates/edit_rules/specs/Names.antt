@@ -19,7 +19,7 @@ use Rattle.doc_model.specs.declared.document.Document.{Document}
 use Rattle.doc_model.specs.Chars.{can_be_typed}
 use Rattle.doc_model.specs.Parts.{all_items, all_fields, mark_of, mark_name, notes, sections}
 use Rattle.doc_model.specs.Valid.{refname_of}
-use Rattle.style_model.specs.Effective.{is_same_family}
+use Rattle.style_model.specs.Lineage.{is_same_family}
 use Rattle.edit_rules.specs.Styles.{stated_properties, has_property, property_word}
 
 -- the names of the styles of a family

@@ -17,7 +17,8 @@ use Rattle.doc_model.specs.Parts.{SectionHead}
 use Rattle.doc_model.specs.Limits.{first_passed, limit_number}
 use Rattle.edit_rules.specs.Places.{Held, live_paragraph, item_count, is_one_of, holds, container_of, held_from, held_between, are_in_order, is_in_note, are_in_one_text, placed_paragraphs, nested_sections, stands_after}
 use Rattle.edit_rules.specs.Texts.{marked_paragraphs}
-use Rattle.edit_rules.specs.Styles.{is_ancestor_or_self, first_user}
+use Rattle.style_model.specs.Lineage.{would_loop}
+use Rattle.edit_rules.specs.Styles.{first_user}
 use Rattle.edit_rules.specs.Names.{needs, brought, is_there, texts_of, first_not_brought}
 use Rattle.edit_rules.specs.Edited.{Edited, edited, numbers_given}
 
@@ -96,7 +97,7 @@ protected doc op = first_refusal_of (map (λ placed. protected_by placed.around)
 
 -- a style that would be its own ancestor
 abbrev pub style_loop : Document → EditOp → Option Refusal
-style_loop doc (SetParent family name parent) = refused_if (is_ancestor_or_self doc.styles family name parent) (StyleLoop name)
+style_loop doc (SetParent family name parent) = refused_if (would_loop doc.styles family name parent) (StyleLoop name)
 style_loop doc _ = None
 
 -- a style that is named, with its first user

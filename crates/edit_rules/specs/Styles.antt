@@ -1,5 +1,5 @@
 -- What edits make of the styles, and what they ask of them.
-use Rattle.std.specs.Prelude.{ℕ, ◌&&◌, ◌||◌, if◌then◌else◌, not, Bool, true, false, List, [], ◌∷◌, ◌++◌, map, filter, find, codes, Option, Some, None, is_some}
+use Rattle.std.specs.Prelude.{ℕ, ◌&&◌, ◌||◌, if◌then◌else◌, Bool, true, false, List, [], ◌∷◌, filter, find, codes, Option, Some, None, is_some}
 use Rattle.std.specs.List.{list_any}
 use Rattle.std.specs.Option.{option_map_or}
 use Rattle.std.specs.Str.{bytes_eq}
@@ -14,41 +14,7 @@ use Rattle.doc_model.specs.declared.style.Prop.TheVariants.{MarginLeft, MarginRi
 use Rattle.doc_model.specs.declared.document.Document.{Document}
 use Rattle.doc_model.specs.Reading.{paragraphs, number_of}
 use Rattle.doc_model.specs.Parts.{items_of, sections}
-use Rattle.style_model.specs.Effective.{is_same_family, lineage}
-
--- whether a style is the one of a family and name
-abbrev pub is_style : Family → List ℕ → Style → Bool
-is_style of name style = is_same_family style.family of && bytes_eq style.name name
-
--- the styles with a change made to the one of a family and name
-abbrev pub with_style_changed : Family → List ℕ → (Style → Style) → List Style → List Style
-with_style_changed of name change styles = map (λ style. if is_style of name style then change style else style) styles
-
--- the styles with a new one, the last of those that are not automatic
-abbrev pub with_style : Style → List Style → List Style
-with_style style styles = filter (λ other. not other.auto) styles ++ record style { auto = false } ∷ filter (λ other. other.auto) styles
-
--- the styles without the one of a family and name
-abbrev pub without_style : Family → List ℕ → List Style → List Style
-without_style of name styles = filter (λ style. not (is_style of name style)) styles
-
--- the properties with one stated, or unstated
-abbrev pub with_property : Prop → Props → Props
-with_property (MarginLeft length) props = record props { margin_left = length }
-with_property (MarginRight length) props = record props { margin_right = length }
-with_property (MarginTop length) props = record props { margin_top = length }
-with_property (MarginBottom length) props = record props { margin_bottom = length }
-with_property (Indent length) props = record props { indent = length }
-with_property (Align align) props = record props { align = align }
-with_property (BreakBefore at) props = record props { break_before = at }
-with_property (BreakAfter at) props = record props { break_after = at }
-with_property (KeepNext keep) props = record props { keep_next = keep }
-with_property (KeepTogether keep) props = record props { keep_together = keep }
-with_property (Widows lines) props = record props { widows = lines }
-with_property (Orphans lines) props = record props { orphans = lines }
-with_property (PageNumber start) props = record props { page_number = start }
-with_property (Display shown) props = record props { display = shown }
-with_property (Tabs tabs) props = record props { tabs = tabs }
+use Rattle.style_model.specs.Lineage.{is_same_family}
 
 -- the properties that a style states, in their order
 abbrev pub stated_properties : Props → List Prop
@@ -98,10 +64,6 @@ property_word (Orphans lines) = codes "orphans"
 property_word (PageNumber start) = codes "page-number"
 property_word (Display shown) = codes "display"
 property_word (Tabs tabs) = codes "tab-stops"
-
--- whether a style is another of its family, or an ancestor of it
-abbrev pub is_ancestor_or_self : List Style → Family → List ℕ → List ℕ → Bool
-is_ancestor_or_self styles of name other = list_any (λ style. bytes_eq style.name name) (lineage styles of other)
 
 -- whether a paragraph names a style: its own, or one of the spans of its items
 abbrev pub is_used_in : Family → List ℕ → Par → Bool

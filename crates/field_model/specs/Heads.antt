@@ -1,9 +1,9 @@
 -- What a document has in reading order, for labels and fields, which count what stands before them: the heads of paragraphs and their items. A note's paragraphs are read behind the note.
-use Rattle.std.specs.Prelude.{ℕ, List, [], ◌∷◌, ◌++◌, map, length, take}
+use Rattle.std.specs.Prelude.{List, ◌∷◌, map}
 use Rattle.std.specs.List.{flat_map}
-use Rattle.doc_model.specs.declared.paragraph.Par.{Par, out-Par}
+use Rattle.doc_model.specs.declared.paragraph.Par.{Par}
 use Rattle.doc_model.specs.declared.paragraph.Item.{Item}
-use Rattle.doc_model.specs.declared.paragraph.Note.{Note, out-Note}
+use Rattle.doc_model.specs.declared.paragraph.Note.{out-Note}
 use Rattle.doc_model.specs.declared.document.Document.{Document}
 use Rattle.doc_model.specs.Reading.{body_paragraphs, note_of}
 use Rattle.doc_model.specs.Parts.{items_of}

@@ -1,1 +1,4 @@
 pub mod Heads
+pub mod Cut
+pub mod Numbers
+pub mod Labels

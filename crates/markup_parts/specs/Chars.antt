@@ -1,5 +1,5 @@
 -- The characters that XML 1.0 names.
-use Rattle.std.specs.Prelude.{ℕ, ◌+◌, ◌*◌, nat_le, nat_lt, ◌&&◌, ◌||◌, Bool, List, [], ◌∷◌, fold, codes, if◌then◌else◌, Option, Some, None}
+use Rattle.std.specs.Prelude.{ℕ, ◌+◌, ◌*◌, nat_le, nat_lt, ◌&&◌, ◌||◌, not, Bool, List, [], ◌∷◌, fold, codes, if◌then◌else◌, Option, Some, None}
 use Rattle.std.specs.Char.{digit_value}
 use Rattle.std.specs.List.{list_any}
 use Rattle.std.specs.Str.{bytes_eq}
@@ -26,6 +26,18 @@ is_name_start = is_among (
 -- what a name goes on with
 unfoldable pub is_name_char : ℕ → Bool
 is_name_char c = is_name_start c || is_among ((0x2d, 0x2e) ∷ (0x30, 0x39) ∷ (0xb7, 0xb7) ∷ (0x300, 0x36f) ∷ (0x203f, 0x2040) ∷ []) c
+
+-- a character that stands for itself in character data, whatever follows
+unfoldable pub is_text_char : ℕ → Bool
+is_text_char c = is_legal c && not (is_among ((0xd, 0xd) ∷ (0x26, 0x26) ∷ (0x3c, 0x3c) ∷ (0x5d, 0x5d) ∷ []) c)
+
+-- a character that stands for itself in an attribute value in either quotes
+unfoldable pub is_value_char : ℕ → Bool
+is_value_char c = is_legal c && not (is_among ((0x9, 0xa) ∷ (0xd, 0xd) ∷ (0x22, 0x22) ∷ (0x26, 0x27) ∷ (0x3c, 0x3c) ∷ []) c)
+
+-- a character that no escape changes, neither of text nor of values
+unfoldable pub is_plain_char : ℕ → Bool
+is_plain_char c = not (is_among ((0x9, 0xa) ∷ (0xd, 0xd) ∷ (0x22, 0x22) ∷ (0x26, 0x26) ∷ (0x3c, 0x3c) ∷ (0x3e, 0x3e) ∷ []) c)
 
 -- whether a character is a digit of a base
 abbrev pub is_digit_of : ℕ → ℕ → Bool

@@ -35,3 +35,27 @@ pub fn is_name_char(c: char) -> bool
     is_name_start(c)
         || matches!(c, '-' | '.' | '0'..='9' | '\u{b7}' | '\u{300}'..='\u{36f}' | '\u{203f}'..='\u{2040}')
 }
+
+/// Whether a character stands for itself in character data, whatever follows.
+#[tactic(auto, unfolding(crate::specs::Chars::is_text_char))]
+pub fn is_text_char(c: char) -> bool
+    ensures { result ≡ named.is_text_char c }
+{
+    is_legal(c) && !matches!(c, '\r' | '&' | '<' | ']')
+}
+
+/// Whether a character stands for itself in an attribute value in either quotes.
+#[tactic(auto, unfolding(crate::specs::Chars::is_value_char))]
+pub fn is_value_char(c: char) -> bool
+    ensures { result ≡ named.is_value_char c }
+{
+    is_legal(c) && !matches!(c, '\t'..='\n' | '\r' | '"' | '&'..='\'' | '<')
+}
+
+/// Whether no escape changes a character, neither in text nor in values.
+#[tactic(auto, unfolding(crate::specs::Chars::is_plain_char))]
+pub fn is_plain_char(c: char) -> bool
+    ensures { result ≡ named.is_plain_char c }
+{
+    !matches!(c, '\t'..='\n' | '\r' | '"' | '&' | '<' | '>')
+}

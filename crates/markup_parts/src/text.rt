@@ -7,7 +7,7 @@ ghost use Rattle.markup_parts.specs.Constructs.{IsText};
 ghost use Rattle.markup_parts.specs.Outcomes.{Reads, outcome};
 ghost use Rattle.markup_parts.specs.Runs.{passes, NotBegins};
 
-use crate::chars::{is_name_char, is_space};
+use crate::chars::{is_name_char, is_plain_char, is_space, is_text_char, is_value_char};
 use crate::stop::Stop;
 
 /// The first character and the text behind it.
@@ -67,6 +67,12 @@ pub enum Class {
     Name,
     /// White space.
     Space,
+    /// Characters that stand for themselves in character data.
+    Text,
+    /// Characters that stand for themselves in an attribute value.
+    Value,
+    /// Characters that no escape changes, neither of text nor of values.
+    Plain,
 }
 
 impl Class {
@@ -76,6 +82,9 @@ impl Class {
         match self {
             Class::Name => is_name_char(c),
             Class::Space => is_space(c),
+            Class::Text => is_text_char(c),
+            Class::Value => is_value_char(c),
+            Class::Plain => is_plain_char(c),
         }
     }
 }

@@ -2,3 +2,4 @@ pub mod AttemptLemmas
 pub mod InstructionLemmas
 pub mod TagLemmas
 pub mod ValueLemmas
+pub mod ValueRunLemmas

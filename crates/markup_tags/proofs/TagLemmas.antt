@@ -11,7 +11,7 @@ use Rattle.markup_parts.specs.Runs.{NotBegins, IsNamePart, ReadsName}
 use Rattle.markup_parts.specs.declared.stop.Stop.{Stop}
 use Rattle.markup_parts.specs.declared.stop.Stop.TheVariants.{Broken, Cut, Refused}
 use Rattle.markup_tags.specs.declared.tags.Tag.{Tag}
-use Rattle.markup_tags.specs.declared.words.Attr.{Attr}
+use Rattle.markup_nodes.specs.declared.words.Attr.{Attr}
 use Rattle.markup_parts.proofs.LiteralLemmas.{head_is, tail_is}
 use Rattle.markup_parts.proofs.ReadsLemmas.{Continues, Agrees, mapped}
 use Rattle.markup_parts.proofs.RunLemmas.{run_keeps, run_once, run_none, name_keeps, name_once, name_none, name_unfinished, completes, completed_name}

@@ -2,7 +2,7 @@
 use Rattle.std.specs.Prelude.{◌≡◌, ◌≢◌, ℕ, Bool, true, false, List, [], ◌∷◌, ◌++◌, codes, ◌⊎◌, if◌then◌else◌, Option, Some, None}
 use Rattle.markup_parts.specs.Chars.{is_space}
 use Rattle.markup_parts.specs.Constructs.{IsName, IsGap, IsSpace, IsLiteral, IsReference}
-use Rattle.markup_tags.specs.declared.words.Attr.{Attr}
+use Rattle.markup_nodes.specs.declared.words.Attr.{Attr}
 use Rattle.markup_tags.specs.declared.tags.Tag.{Tag}
 
 -- a character of an attribute value in these quotes: white space that stands there is a space, and `<` doesn't stand there

@@ -8,12 +8,11 @@ mod fault;
 mod instructions;
 mod tags;
 mod values;
-mod words;
 
 pub use fault::Fault;
 pub use instructions::{declaration, instruction};
+pub use markup_nodes::{Attr, Attrs, Word};
 pub use tags::{Tag, end_tag, start_tag};
-pub use words::{Attr, Attrs, Word};
 
 #[cfg(test)]
 mod tests;

@@ -8,7 +8,7 @@ ghost use Rattle.markup_tags.specs.Tags.{IsQuote, IsOpening, IsEquals, IsAttribu
 
 use crate::fault::Fault;
 use crate::values::value;
-use crate::words::{Attr, Attrs, Word};
+use markup_nodes::{Attr, Attrs, Word};
 use markup_parts::{Class, Stop, first, is_nothing, name, run};
 use std::alloc::Global;
 

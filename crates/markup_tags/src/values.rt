@@ -7,7 +7,7 @@ ghost use Rattle.markup_tags.specs.Attempts.{ReadsUnlessMemory, attempt};
 ghost use Rattle.markup_tags.specs.Tags.{IsValue, IsQuote, IsNextOfValue};
 
 use crate::fault::Fault;
-use markup_parts::{Stop, first, is_space, literal, reference};
+use markup_parts::{Class, Stop, first, is_nothing, is_space, literal, reference, run};
 use std::alloc::Global;
 
 /// The value behind its first quote, and the text behind its last.
@@ -19,6 +19,12 @@ pub fn value(alloc: Global, text: &str, quote: char) -> Result<(String, &str), F
     let mut value = String::new(alloc);
     let mut rest = text;
     'characters: loop {
+        let (plain, front) = run(rest, Class::Value);
+        if !is_nothing(plain) {
+            value.push_str(plain)?;
+            rest = front;
+            continue;
+        }
         match value_char(rest, quote) {
             Err(stop) => return Err(Fault::Stopped(stop)),
             Ok((None, behind)) => return Ok((value, behind)),

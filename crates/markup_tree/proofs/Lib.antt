@@ -8,5 +8,6 @@ pub mod ReaderLemmas
 pub mod SayingLemmas
 pub mod StackLemmas
 pub mod TagOnceLemmas
+pub mod TextRunLemmas
 pub mod TreeLemmas
 pub mod WayLemmas

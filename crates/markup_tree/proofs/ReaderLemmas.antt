@@ -5,8 +5,8 @@ use Rattle.markup_tree.specs.declared.reader.ReadFault.{ReadFault}
 use Rattle.markup_tree.specs.declared.reader.ReadFault.TheVariants as fault
 use Rattle.markup_tree.specs.declared.part.Part.{Part}
 use Rattle.markup_tags.specs.declared.tags.Tag.{Tag}
-use Rattle.markup_tree.specs.declared.tree.Elem.{Elem}
-use Rattle.markup_tree.specs.declared.tree.Tree.{Tree}
+use Rattle.markup_nodes.specs.declared.tree.Elem.{Elem}
+use Rattle.markup_nodes.specs.declared.tree.Tree.{Tree}
 use Rattle.markup_tree.specs.Documents.{Event, Opens, Closes, Spot, Reaches, place_of, behind, part_behind, part_within, IsSpelling, IsFirstOffence, Spells, IsFaultIn}
 use Rattle.markup_parts.specs.Outcomes.{IsRead}
 use Rattle.markup_tree.specs.Pieces.{Saying, Silent, Begins, Ends, Holds, Declares, IsInProlog, IsConstruct}

@@ -5,7 +5,7 @@ use Rattle.std.specs.Option.{option_map}
 use Rattle.markup_parts.specs.Chars.{is_name_start}
 use Rattle.markup_parts.specs.Constructs.{IsGap, IsSpace, IsLiteral, IsReference}
 use Rattle.markup_tags.specs.Tags.{IsQuote, IsValueChar, IsValuePart, IsNextOfValue, IsValue, IsOpening, IsEquals, IsAttributeRest, IsAttribute, AreAttributes, IsTagEnd, IsTagRest, IsTag, IsEndTag}
-use Rattle.markup_tags.specs.declared.words.Attr.{Attr}
+use Rattle.markup_nodes.specs.declared.words.Attr.{Attr}
 use Rattle.markup_parts.proofs.LiteralLemmas.{head_is, tail_is, literal_head}
 use Rattle.markup_tree.proofs.OnceLemmas.{Once, read_once, run_alone, name_alone, gap_alone, literal_once, reference_once}
 use Rattle.markup_parts.proofs.ReferenceLemmas.{starts_apart}

@@ -1,13 +1,8 @@
 -- The one tree of a text, and its one first offence.
 use Rattle.std.proofs.Common.{◌≡◌, ◌⊎◌, ℕ, List, [], ◌∷◌, ◌++◌, map, refl, ap, sym, ◌∙◌, subst, inl, inr, append_assoc, length, Option, Some, None, Result, Ok, Err, IfOk, IfErr, IsUtf8}
 use Rattle.std.proofs.lemmas.List.{append-nil}
-use Rattle.markup_tags.specs.declared.words.Attr.{Attr}
-use Rattle.markup_tree.specs.declared.tree.Elem.{Elem, out-Elem, roll-Elem}
-use Rattle.markup_tree.specs.declared.tree.Node.{Node, roll-Node}
-use Rattle.markup_tree.specs.declared.tree.Node.TheOpen.{Node-F, Elem-F}
-use Rattle.markup_tree.specs.declared.tree.Node.TheViews.{roll-out-Elem}
-use Rattle.markup_tree.specs.declared.tree.Node.TheFolds.{map-Node, map-Elem, ind-Elem}
-use Rattle.markup_tree.specs.declared.tree.Tree.{Tree}
+use Rattle.markup_nodes.specs.declared.tree.Elem.{Elem}
+use Rattle.markup_nodes.specs.declared.tree.Tree.{Tree}
 use Rattle.markup_tree.specs.declared.reader.Offence.{Offence}
 use Rattle.markup_tree.specs.declared.reader.ReadFault.{ReadFault}
 use Rattle.markup_tree.specs.declared.reader.ReadFault.TheVariants as fault
@@ -21,72 +16,7 @@ use Rattle.markup_parts.specs.Outcomes.{IsBroken, IsCut}
 use Rattle.markup_tree.specs.Pieces.{Saying, IsConstruct}
 use Rattle.markup_tree.proofs.ConstructLemmas.{construct_cut}
 use Rattle.markup_tree.proofs.ConstructOnceLemmas.{construct_once}
-use Rattle.markup_tree.proofs.EventLemmas.{ev, evs, ev-elem, ev-char, events-roll, events-begun, node_view, Known-Node, Known-Elem, nodes_known}
-
--- what stands in a node with its proof
-abbrev Node-Known : Type 0
-Node-Known = (node : Node) × Known-Node node
-
-abbrev Elem-Known : Type 0
-Elem-Known = (elem : Elem) × Known-Elem elem
-
--- an element and a character begin with other events
-elem_char : (elem : Elem) (c : ℕ) (xs ys : List Event) → events_of elem ++ xs ≡ Stands c ∷ ys → ⊥
-elem_char elem c xs ys e = let f = ap (λ (t : List Event). t ++ xs) (sym (events-begun elem)) ∙ e in cc
-
-elem_node_known : (elem : Elem) → Known-Elem elem → Known-Node (roll-Node (Node-F.Elem elem))
-elem_node_known elem known other xs ys e = elim (node_view other) [
-  | inl found ↦ (
-      let same = known found.0 xs ys (ap (λ (t : List Event). t ++ xs) (sym (ev-elem elem)) ∙ (e ∙ ap (λ (t : List Event). t ++ ys) (ap ev found.1 ∙ ev-elem found.0))) in
-      (ap (λ (x : Elem). roll-Node (Node-F.Elem x)) same.0 ∙ sym found.1, same.1))
-  | inr found ↦ absurd (elem_char elem found.0 xs ys (ap (λ (t : List Event). t ++ xs) (sym (ev-elem elem)) ∙ (e ∙ ap (λ (t : List Event). t ++ ys) (ap ev found.1 ∙ ev-char found.0))))
-]
-
-stands_same : {c d : ℕ} {xs ys : List Event} → Stands c ∷ xs ≡ Stands d ∷ ys → (c ≡ d) × (xs ≡ ys)
-stands_same e = (cc, cc)
-
-char_node_known : (c : ℕ) → Known-Node (roll-Node (Node-F.Char c))
-char_node_known c other xs ys e = elim (node_view other) [
-  | inl found ↦ absurd (elem_char found.0 c ys xs (sym (ap (λ (t : List Event). t ++ xs) (sym (ev-char c)) ∙ (e ∙ ap (λ (t : List Event). t ++ ys) (ap ev found.1 ∙ ev-elem found.0)))))
-  | inr found ↦ (
-      let same = stands_same (ap (λ (t : List Event). t ++ xs) (sym (ev-char c)) ∙ (e ∙ ap (λ (t : List Event). t ++ ys) (ap ev found.1 ∙ ev-char found.0))) in
-      (ap (λ (d : ℕ). roll-Node (Node-F.Char d)) same.0 ∙ sym found.1, same.1))
-]
-
-opens_same : {p q : ℕ} {n m : List ℕ} {a b : List Attr} {xs ys : List Event} → Opens p n a ∷ xs ≡ Opens q m b ∷ ys → (p ≡ q) × (n ≡ m) × (a ≡ b) × (xs ≡ ys)
-opens_same e = (cc, cc, cc, cc)
-
-abbrev elem_of : ℕ → List ℕ → List Attr → List Node → Elem
-elem_of place name attrs nodes = roll-Elem (record { place = place; name = name; attrs = attrs; nodes = nodes })
-
-elem_rolled_known : (place : ℕ) (name : List ℕ) (attrs : List Attr) (nodes : List Node-Known) → Known-Elem (elem_of place name attrs (map (λ known. known.0) nodes))
-elem_rolled_known place name attrs nodes other xs ys e =
-    let o = out-Elem other in
-    let inner = map (λ known. known.0) nodes in
-    let f : Opens place name attrs ∷ ((evs inner ++ Closes ∷ []) ++ xs) ≡ Opens o.place o.name o.attrs ∷ ((evs o.nodes ++ Closes ∷ []) ++ ys) =
-    ap (λ (t : List Event). t ++ xs) (sym (events-roll (record { place = place; name = name; attrs = attrs; nodes = inner })))
-    ∙ (e ∙ ap (λ (t : List Event). t ++ ys) (ap events_of (sym (roll-out-Elem other)) ∙ events-roll o)) in
-    let same = opens_same f in
-    let held = nodes_known nodes o.nodes xs ys (sym (append_assoc (evs inner) (Closes ∷ []) xs) ∙ (same.3 ∙ append_assoc (evs o.nodes) (Closes ∷ []) ys)) in (
-      ap (λ (x : ℕ). elem_of x name attrs inner) same.0
-          ∙ (ap (λ (x : List ℕ). elem_of o.place x attrs inner) same.1
-          ∙ (ap (λ (x : List Attr). elem_of o.place o.name x inner) same.2
-          ∙ (ap (λ (x : List Node). elem_of o.place o.name o.attrs x) held.0 ∙ roll-out-Elem other))),
-      held.1,
-    )
-
-node_step : (x : Node-F Node Elem) (y : Node-F Node-Known Elem-Known) → map-Node Node-Known Elem-Known Node Elem (λ known. known.0) (λ known. known.0) y ≡ x → Known-Node (roll-Node x)
-node_step x (Node-F.Elem known) is = subst (λ (z : Node-F Node Elem). Known-Node (roll-Node z)) is (elem_node_known known.0 known.1)
-node_step x (Node-F.Char c) is = subst (λ (z : Node-F Node Elem). Known-Node (roll-Node z)) is (char_node_known c)
-
-elem_step : (x : Elem-F Node Elem) (y : Elem-F Node-Known Elem-Known) → map-Elem Node-Known Elem-Known Node Elem (λ known. known.0) (λ known. known.0) y ≡ x → Known-Elem (roll-Elem x)
-elem_step x y is = subst (λ (z : Elem-F Node Elem). Known-Elem (roll-Elem z)) is (elem_rolled_known y.place y.name y.attrs y.nodes)
-
-elem_known : (elem : Elem) → Known-Elem elem
-elem_known = ind-Elem Known-Node Known-Elem node_step elem_step
-
-pub tree_known : (one other : Elem) → events_of one ≡ events_of other → one ≡ other
-tree_known one other e = (elem_known one other [] [] (ap (λ (t : List Event). t ++ []) e)).0
+use Rattle.markup_tree.proofs.EventLemmas.{tree_known}
 
 -- the text ends behind the root
 abbrev IsComplete : Spot → Type 0

@@ -2,12 +2,13 @@
 use Rattle.std.specs.Prelude.{◌≡◌, ℕ, ◌-◌, ◌==◌, nat_lt, List, [], ◌∷◌, ◌++◌, map, length, chars, ◌⊎◌, if◌then◌else◌, Option, Some, None, Result, Ok, Err}
 use Rattle.std.specs.List.{flat_map}
 use Rattle.std.specs.Str.{bytes_eq, encode_utf8_all, IsUtf8, IsValidUpTo}
-use Rattle.markup_tags.specs.declared.words.Attr.{Attr}
-use Rattle.markup_tree.specs.declared.tree.Elem.{Elem}
-use Rattle.markup_tree.specs.declared.tree.Tree.{Tree}
+use Rattle.markup_nodes.specs.declared.words.Attr.{Attr}
+use Rattle.markup_nodes.specs.declared.tree.Elem.{Elem}
+use Rattle.markup_nodes.specs.declared.tree.Elem.TheOpen.{Elem-F}
+use Rattle.markup_nodes.specs.declared.tree.Elem.TheFolds.{fold-Elem}
+use Rattle.markup_nodes.specs.declared.tree.Tree.{Tree}
+use Rattle.markup_nodes.specs.Node.{Node, Element, Char}
 use Rattle.markup_tags.specs.declared.tags.Tag.{Tag}
-use Rattle.markup_tree.specs.declared.tree.Node.TheOpen.{Node-F, Elem-F}
-use Rattle.markup_tree.specs.declared.tree.Node.TheFolds.{fold-Elem}
 use Rattle.markup_tree.specs.declared.part.Part.{Part}
 use Rattle.markup_tree.specs.declared.part.Part.TheVariants.{Start, Before, Inside, After}
 use Rattle.markup_tree.specs.declared.reader.Offence.{Offence}
@@ -24,16 +25,16 @@ pub data Event : Type 0 where
   Closes : Event
   Stands : (c : ℕ) → Event
 
-abbrev pub node_events : Node-F (List Event) (List Event) → List Event
-node_events (Node-F.Elem events) = events
-node_events (Node-F.Char c) = Stands c ∷ []
+abbrev pub node_events : Node (List Event) → List Event
+node_events (Element events) = events
+node_events (Char c) = Stands c ∷ []
 
-abbrev pub elem_events : Elem-F (List Event) (List Event) → List Event
-elem_events elem = Opens elem.place elem.name elem.attrs ∷ (flat_map (λ events. events) elem.nodes ++ Closes ∷ [])
+abbrev pub elem_events : Elem-F (List Event) → List Event
+elem_events elem = Opens elem.place elem.name elem.attrs ∷ (flat_map node_events elem.nodes ++ Closes ∷ [])
 
 -- the events of an element: it opens, those of what it holds in their order, and it closes
 abbrev pub events_of : Elem → List Event
-events_of = fold-Elem (List Event) (List Event) node_events elem_events
+events_of = fold-Elem (List Event) elem_events
 
 -- a place between two constructs: the part of the document, the text from there on, the names of the open elements, the last
 -- first, and the events so far

@@ -1,10 +1,8 @@
 -- What the reader keeps of open elements, and its answers.
 use Rattle.std.specs.Prelude.{◌≡◌, ℕ, List, [], ◌∷◌, ◌++◌, map, reverse}
 use Rattle.std.specs.List.{flat_map}
-use Rattle.markup_tree.specs.declared.tree.Elem.{Elem, out-Elem}
-use Rattle.markup_tree.specs.declared.tree.Node.{Node, roll-Node}
-use Rattle.markup_tree.specs.declared.tree.Node.TheOpen.{Node-F}
-use Rattle.markup_tree.specs.declared.tree.Node.TheFolds.{fold-Node}
+use Rattle.markup_nodes.specs.declared.tree.Elem.{Elem, out-Elem}
+use Rattle.markup_nodes.specs.Node.{Node, Element, Char}
 use Rattle.markup_tags.specs.declared.tags.Tag.{Tag}
 use Rattle.markup_tree.specs.declared.part.Part.TheVariants.{Inside, After}
 use Rattle.markup_parts.specs.declared.stop.Stop.TheVariants.{Broken, Cut, Refused}
@@ -15,13 +13,16 @@ use Rattle.markup_tree.specs.declared.reader.ReadFault.{ReadFault}
 use Rattle.markup_tree.specs.declared.reader.ReadFault.TheVariants as fault
 use Rattle.markup_parts.specs.Outcomes.{IsRead}
 use Rattle.markup_tree.specs.Pieces.{Begins, IsConstruct}
-use Rattle.markup_tree.specs.Documents.{Event, Opens, node_events, elem_events, events_of, Spot, place_of, Reaches, IsFirstOffence}
+use Rattle.markup_tree.specs.Documents.{Event, Opens, Stands, events_of, Spot, place_of, Reaches, IsFirstOffence}
+
+-- the events of a node
+abbrev pub held_events : Node Elem → List Event
+held_events (Element elem) = events_of elem
+held_events (Char c) = Stands c ∷ []
 
 -- the events of an open element so far
 abbrev pub begun : Elem → List Event
-begun elem =
-    Opens (out-Elem elem).place (out-Elem elem).name (out-Elem elem).attrs
-    ∷ flat_map (λ events. events) (map (fold-Node (List Event) (List Event) node_events elem_events) (out-Elem elem).nodes)
+begun elem = Opens (out-Elem elem).place (out-Elem elem).name (out-Elem elem).attrs ∷ flat_map held_events (out-Elem elem).nodes
 
 -- the name of an element
 abbrev pub name_of : Elem → List ℕ
@@ -60,14 +61,6 @@ fault_of unread.NoMemory place end = fault.NoMemory
 abbrev pub IsFaultOf : List ℕ → ReadFault → Type 0
 IsFaultOf whole (fault.Offence offence) = IsFirstOffence whole offence
 IsFaultOf whole fault.NoMemory = Unit {0}
-
--- characters as nodes
-abbrev pub char_nodes : List ℕ → List Node
-char_nodes = map (λ c. roll-Node (Node-F.Char c))
-
--- an element as nodes
-abbrev pub elem_node : Elem → List Node
-elem_node elem = roll-Node (Node-F.Elem elem) ∷ []
 
 -- an element is what a tag at a place begins, with nothing in it
 pub record IsHeading (tag : Tag) (place : ℕ) (elem : Elem) : Type 0 where

@@ -1,15 +1,15 @@
 //! The next construct of a document.
 
-ghost use Rattle.std.specs.Prelude.{◌≡◌, ◌≢◌, ◌==◌, ◌||◌, [], ◌∷◌, ◌++◌, ◌<◌, ◌≤◌, chars, length, IfSome, IfOk, codes};
+ghost use Rattle.std.specs.Prelude.{◌≢◌, ◌==◌, [], ◌++◌, ◌<◌, ◌≤◌, chars, length, IfOk, codes};
 ghost use Rattle.markup_parts.specs.Constructs.{IsText, IsComment};
-ghost use Rattle.markup_parts.specs.Outcomes.{IsRead, Reads, outcome};
+ghost use Rattle.markup_parts.specs.Outcomes.{Reads, outcome};
 ghost use Rattle.markup_parts.specs.Runs.{NotBegins};
 ghost use Rattle.markup_tags.specs.Attempts.{ReadsUnlessMemory, attempt};
 ghost use Rattle.markup_tags.specs.Tags.{IsTag};
-ghost use Rattle.markup_tree.specs.Pieces.{said, silent, Begins, Holds, Declares, Behind, ◌or◌, IsBlank, IsBracket, IsPlain, IsSkipped, IsSpecial, IsElementTag, IsMarkup, IsConstruct};
+ghost use Rattle.markup_tree.specs.Pieces.{said, silent, Begins, Declares, Behind, ◌or◌, IsBlank, IsBracket, IsPlain, IsSkipped, IsSpecial, IsElementTag, IsMarkup, IsConstruct};
 
 use crate::part::Part;
-use markup_parts::{Stop, cdata, comment, expect, first, is_legal, is_space, literal, reference};
+use markup_parts::{Stop, cdata, comment, expect, first, is_space, literal, reference};
 use markup_tags::{Fault, Tag, declaration, end_tag, instruction, start_tag};
 use std::alloc::Global;
 
@@ -45,26 +45,6 @@ pub fn construct(alloc: Global, part: Part, text: &str) -> Result<(Says<'_>, &st
         Err(stop) => Err(Fault::Stopped(stop)),
         Ok(found) => Ok(found),
     }
-}
-
-/// The character of the root at the front, and the text behind it, if it is one that stands for itself whatever follows.
-/// It is read like any other construct, but faster.
-pub fn lone(text: &str) -> Option<(char, &str)>
-    ensures read { IfSome result (λ found. IsRead (IsConstruct Part.Inside) (chars text.now) (Holds (found.0 ∷ [])) (chars found.1.now)) }
-    ensures shorter { IfSome result (λ found. length found.1.now < length text.now) }
-{
-    let (c, rest) = first(text)?;
-    if is_special(c) {
-        return None;
-    }
-    if is_legal(c) { Some((c, rest)) } else { None }
-}
-
-/// Whether a character of the root begins something else, or is a line end that may have a second character.
-fn is_special(c: char) -> bool
-    ensures { result ≡ (c == 0xd || c == 0x3c || c == 0x26 || c == 0x5d) }
-{
-    matches!(c, '\r' | '<' | '&' | ']')
 }
 
 /// What isn't markup.

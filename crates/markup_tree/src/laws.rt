@@ -3,7 +3,7 @@
 ghost use Rattle.std.specs.Prelude.{◌≡◌, List, ℕ};
 ghost use Rattle.markup_tree.specs.Documents.{Spells, HasOffence};
 ghost use Rattle.markup_tree.specs.declared.reader.Offence.{Offence};
-ghost use Rattle.markup_tree.specs.declared.tree.Tree.{Tree};
+ghost use Rattle.markup_nodes.specs.declared.tree.Tree.{Tree};
 
 /// A string has one tree or one first offence, and not both.
 pub fn one_tree()

@@ -8,13 +8,11 @@ mod escape;
 mod laws;
 mod part;
 mod reader;
-mod tree;
 
-pub use escape::{escape_text, escape_value};
+pub use escape::{escape_text, escape_value, push_text, push_value};
 pub use laws::one_tree;
-pub use markup_tags::{Attr, Attrs, Word};
+pub use markup_nodes::{Attr, Attrs, Elem, Nodes, Tree, Turn, Word};
 pub use reader::{Offence, OffenceKind, ReadFault, read_tree};
-pub use tree::{Elem, Node, Tree};
 
 #[cfg(test)]
 mod tests;

@@ -3,14 +3,14 @@
 ghost use Rattle.std.specs.Prelude.{◌≡◌, ◌++◌, ◌+◌, ◌^◌, ◌<◌, ◌≤◌, ℕ, List, [], length, vec_len, chars, IfOk, IfErr, OnOk};
 ghost use Rattle.markup_tree.specs.Pieces.{line_ends};
 ghost use Rattle.markup_tree.specs.Documents.{behind_tag, place_of, byte_count, without_mark, Reaches, IsSpelling, Spells, HasOffence, IsFaultIn, IsTreeUnlessMemory, IsOffenceUnlessMemory};
-ghost use Rattle.markup_tree.specs.Stacks.{spot_in, spot_after, IsAtRoot, fault_of, IsFaultOf, IsHeading, char_nodes, elem_node};
+ghost use Rattle.markup_tree.specs.Stacks.{spot_in, spot_after, IsAtRoot, fault_of, IsFaultOf, IsHeading};
+ghost use Rattle.markup_nodes.specs.Nodes.{char_nodes};
 
-use crate::construct::{Says, construct, lone};
+use crate::construct::{Says, construct};
 use crate::part::Part;
-use crate::tree::{Elem, Node, Tree};
-use markup_parts::{Stop, first, is_nothing, is_word};
+use markup_nodes::{Elem, Nodes, Tree};
+use markup_parts::{Class, Stop, first, is_nothing, is_word, run};
 use markup_tags::{Fault, Tag};
-use sqlite_items::{Boxed, Items};
 use std::alloc::{AllocError, AllocFailed, Global};
 use std::{mem, str};
 use thiserror::Error;
@@ -173,7 +173,7 @@ fn element(alloc: Global, tag: Tag, place: u32) -> Elem
         place,
         name,
         attrs,
-        nodes: Items::new(alloc),
+        nodes: Nodes::new(alloc),
     }
 }
 
@@ -225,9 +225,10 @@ fn to_close<'a>(
     let mut top = root;
     let mut below = Vec::new(alloc);
     'content: loop {
-        if let Some((c, behind)) = lone(rest) {
-            top.nodes.push(Node::Char(c))?;
-            rest = behind;
+        let (plain, front) = run(rest, Class::Text);
+        if !is_nothing(plain) {
+            top.nodes.push_str(plain)?;
+            rest = front;
             continue;
         }
         let (says, behind) = match construct(alloc, Part::Inside, rest) {
@@ -236,7 +237,7 @@ fn to_close<'a>(
         };
         match says {
             Says::Nothing | Says::Doctype => {}
-            Says::Char(c) => top.nodes.push(Node::Char(c))?,
+            Says::Char(c) => top.nodes.push(c)?,
             Says::Data(section) => push_data(&mut top.nodes, section)?,
             Says::Tag(tag) => {
                 if below.len() + 1 >= MOST_OPEN {
@@ -252,7 +253,7 @@ fn to_close<'a>(
                     return Ok((top, behind));
                 };
                 let elem = mem::replace(&mut top, parent);
-                push_element(alloc, &mut top.nodes, elem)?;
+                top.nodes.push_elem(alloc, elem)?;
             }
         }
         rest = behind;
@@ -273,31 +274,23 @@ fn begin(
     let closed = tag.closed;
     let elem = element(alloc, tag, place);
     if closed {
-        return push_element(alloc, &mut top.nodes, elem);
+        return top.nodes.push_elem(alloc, elem);
     }
     below.push(mem::replace(top, elem))?;
     Ok(())
 }
 
-/// Adds an element to nodes.
-fn push_element(alloc: Global, nodes: &mut Items<Node>, elem: Elem) -> Result<(), AllocError>
-    ensures { OnOk result (nodes.new ≡ nodes.old ++ elem_node elem) }
-{
-    let elem = Boxed::new(alloc, elem)?;
-    nodes.push(Node::Elem(elem))
-}
-
 /// Adds the characters of a CDATA section to nodes.
-fn push_data(nodes: &mut Items<Node>, section: &str) -> Result<(), AllocError>
+fn push_data(nodes: &mut Nodes<Elem>, section: &str) -> Result<(), AllocError>
     ensures { OnOk result (nodes.new ≡ nodes.old ++ char_nodes (line_ends (chars section.now))) }
 {
     let mut returned = false;
     let mut rest = section;
     'section: while let Some((c, behind)) = first(rest) {
         if c == '\r' {
-            nodes.push(Node::Char('\n'))?;
+            nodes.push('\n')?;
         } else if c != '\n' || !returned {
-            nodes.push(Node::Char(c))?;
+            nodes.push(c)?;
         }
         returned = c == '\r';
         rest = behind;

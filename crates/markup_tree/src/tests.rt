@@ -8,6 +8,7 @@ use std::test::Fail;
 use table::{BYTES, TEXTS, WHOLE};
 
 /// An element as `name@place[attribute=value](nodes)`.
+#[tactic(auto, using(markup_nodes::proofs::SizeLemmas::smaller))]
 fn show(out: &mut String, elem: &Elem) -> Result<(), AllocError> {
     out.push_str(elem.name.get())?;
     out.push('@')?;
@@ -21,11 +22,10 @@ fn show(out: &mut String, elem: &Elem) -> Result<(), AllocError> {
         out.push(']')?;
     }
     out.push('(')?;
-    for node in elem.nodes.as_slice() {
-        match node {
-            Node::Char(c) => out.push(*c)?,
-            Node::Elem(elem) => show(out, elem.get())?,
-        }
+    out.push_str(elem.nodes.first())?;
+    for turn in elem.nodes.turns() {
+        show(out, &turn.elem)?;
+        out.push_str(turn.after.get())?;
     }
     out.push(')')
 }
@@ -108,35 +108,6 @@ fn times(alloc: Global, text: &str, count: u32) -> Result<String, AllocError> {
     Ok(out)
 }
 
-/// Whether 200 open elements and what stands behind them come to this.
-fn nested_comes_to(alloc: Global, tail: &str, wanted: &str) -> Result<bool, AllocError> {
-    let mut text = times(alloc, "<a>", 200)?;
-    text.push_str(tail)?;
-    comes_to(alloc, text.as_bytes(), wanted)
-}
-
-/// What stands behind 200 open elements, and what the document comes to.
-const TAILS: &[(&str, &str)] = &[
-    ("", "form 600"),
-    ("<a>", "deep 600"),
-    ("<a/>", "deep 600"),
-    ("<a b=1>", "form 600"),
-    ("<a ", "form 603"),
-    ("b</a>", "form 605"),
-];
-
-#[test]
-fn two_hundred_elements_may_be_open(rt: HostRuntime) -> Result<(), Fail> {
-    for (tail, wanted) in TAILS {
-        assert!(rt; nested_comes_to(rt.alloc(), tail, wanted)?, "{tail:?}");
-    }
-    let mut text = times(rt.alloc(), "<a>", 200)?;
-    text.push_str(&times(rt.alloc(), "</a>", 200)?)?;
-    let answer = told(rt.alloc(), text.as_bytes())?;
-    assert!(rt; answer.starts_with("a@0(a@3(a@6("));
-    Ok(())
-}
-
 /// An element with 1,200 attributes and one that holds a text, and the same text in it.
 fn holding(alloc: Global, text: &str) -> Result<String, AllocError> {
     let mut out = String::from_str(alloc, "<a")?;
@@ -155,9 +126,7 @@ fn holds(elem: &Elem, text: &str) -> bool {
     match attrs.last() {
         None => false,
         Some(last) => {
-            attrs.len() == 1_201
-                && last.value.get() == text
-                && elem.nodes.as_slice().len() == text.chars().count()
+            attrs.len() == 1_201 && last.value.get() == text && elem.nodes.first() == text
         }
     }
 }
@@ -183,16 +152,5 @@ fn what_is_escaped_is_read_back_at_any_length(rt: HostRuntime) -> Result<(), Fai
     let characters = escape_text(rt.alloc(), "a<b>&\"'\t\n\r]]>é")?;
     assert!(rt; characters.as_str() == "a&lt;b&gt;&amp;\"'\t\n\r]]&gt;é");
     assert!(rt; is_large_read_back(rt.alloc())?);
-    Ok(())
-}
-
-#[test]
-fn a_fault_is_told_by_kind_and_place(rt: HostRuntime) -> Result<(), Fail> {
-    let fault = ReadFault::Offence(Offence {
-        kind: OffenceKind::Doctype,
-        place: 5,
-    });
-    let text = fault.to_string(rt.alloc())?;
-    assert!(rt; text.as_str() == "a document type begins, at byte 5");
     Ok(())
 }

@@ -1,7 +1,5 @@
 -- Effective properties: of each property the first stated value along the style, its ancestors, the default style and what holds where nothing is stated.
-use Rattle.std.specs.Prelude.{◌≡◌, ℕ, pos, ◌&&◌, Bool, true, false, List, [], ◌∷◌, ◌++◌, map, length, find, Option, Some, None, zero, suc}
-use Rattle.std.specs.Option.{option_map_or}
-use Rattle.std.specs.Str.{bytes_eq}
+use Rattle.std.specs.Prelude.{ℕ, pos, true, false, List, [], ◌∷◌, ◌++◌, map, Option, Some, None}
 use Rattle.doc_model.specs.declared.style.Family.{Family}
 use Rattle.doc_model.specs.declared.style.Family.TheVariants as family
 use Rattle.doc_model.specs.declared.style.Style.{Style}
@@ -9,28 +7,7 @@ use Rattle.doc_model.specs.declared.style.Props.{Props}
 use Rattle.doc_model.specs.declared.style.Align.TheVariants as align
 use Rattle.doc_model.specs.declared.style.BreakAt.TheVariants as break
 use Rattle.doc_model.specs.declared.style.PageStart.TheVariants as number
-use Rattle.doc_model.specs.declared.document.Document.{Document}
-use Rattle.doc_model.specs.Empty.{unstated}
-
--- whether two families are the same
-abbrev pub is_same_family : Family → Family → Bool
-is_same_family family.Paragraph family.Paragraph = true
-is_same_family family.Text family.Text = true
-is_same_family family.Section family.Section = true
-is_same_family _ _ = false
-
--- the style of a family and name, if there is one
-abbrev pub style_named : List Style → Family → List ℕ → Option Style
-style_named styles of name = find (λ style. is_same_family style.family of && bytes_eq style.name name) styles
-
--- a style and its ancestors, at most so many
-abbrev pub lineage_of : ℕ → List Style → Family → List ℕ → List Style
-lineage_of zero styles of name = []
-lineage_of (suc most) styles of name = option_map_or (λ style. style ∷ lineage_of most styles of style.parent) (style_named styles of name) []
-
--- a style and its ancestors, the nearest first. No style is its own ancestor, so they are at most as many as there are styles
-abbrev pub lineage : List Style → Family → List ℕ → List Style
-lineage styles of name = lineage_of (length styles) styles of name
+use Rattle.style_model.specs.Lineage.{lineage}
 
 -- the first stated one of some values
 abbrev pub first_stated : {X : Type 0} → List (Option X) → Option X
@@ -83,8 +60,8 @@ abbrev pub stated : List Style → Family → List ℕ → Props
 stated styles of name = stated_along (map (λ style. style.props) (lineage styles of name))
 
 -- the master that is stated along a style and its ancestors; the empty name may be stated
-abbrev pub stated_master : List Style → List ℕ → Option (List ℕ)
-stated_master styles name = first_stated (map (λ style. style.master) (lineage styles family.Paragraph name))
+abbrev pub stated_master : List Style → Family → List ℕ → Option (List ℕ)
+stated_master styles of name = first_stated (map (λ style. style.master) (lineage styles of name))
 
 -- the effective properties of a paragraph style
 abbrev pub effective : Props → List Style → List ℕ → Props

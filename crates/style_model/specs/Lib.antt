@@ -1,1 +1,6 @@
+pub mod Lineage
 pub mod Effective
+pub mod Changes
+pub mod Lengths
+pub mod Dims
+pub mod Masters

@@ -7,7 +7,7 @@ use Rattle.markup_parts.specs.Outcomes.{Found, Stopped, Reads, IsRead}
 use Rattle.markup_parts.specs.declared.stop.Stop.TheVariants.{Broken, Cut}
 use Rattle.markup_parts.proofs.LiteralLemmas.{true_false}
 use Rattle.markup_parts.proofs.ReadsLemmas.{mapped, reads_on}
-use Rattle.markup_tags.specs.declared.words.Attr.{Attr}
+use Rattle.markup_nodes.specs.declared.words.Attr.{Attr}
 use Rattle.markup_tags.specs.Attempts.{ReadsUnlessMemory, fault_outcome}
 use Rattle.markup_tags.specs.Tags.{IsAttribute, IsTagRest}
 use Rattle.markup_tags.proofs.AttemptLemmas.{fault_stop}

@@ -2,7 +2,7 @@
 use denote.Shadow.{shadow}
 use denote.Text.{Utf8}
 use Rattle.std.proofs.Common.{◌++◌, ◌≤◌, List, length, chars, Bool}
-use Rattle.markup_tags.specs.declared.words.Attr.{Attr}
+use Rattle.markup_nodes.specs.declared.words.Attr.{Attr}
 use Rattle.markup_tags.specs.Tags.{IsTagRest}
 use Rattle.markup_parts.specs.Outcomes.{Outcome, Reads}
 use Rattle.markup_parts.proofs.ReadsLemmas.{mapped}

@@ -3,7 +3,7 @@ use denote.Shadow.{shadow}
 use denote.Text.{Utf8}
 use Rattle.std.proofs.Common.{◌≡◌, ◌++◌, length, chars}
 use Rattle.markup_tree.specs.Pieces.{lines_from, line_ends}
-use Rattle.markup_tree.specs.Stacks.{char_nodes}
+use Rattle.markup_nodes.specs.Nodes.{char_nodes}
 use Rattle.markup_tree.proofs.reader.push_data.Given as goal
 
 abbrev pub decreases-section : goal.decreases-section

@@ -1,12 +1,12 @@
 use Rattle.std.proofs.Common.{◌≡◌, ◌<◌, ◌≤◌, ◌+◌, ℕ, List, [], ◌∷◌, ◌++◌, length, chars, bytes_eq, true, false, inl, inr, refl, ap, sym, ◌∙◌, subst, arith, rules, Some}
-use Rattle.markup_tree.specs.declared.tree.Elem.{Elem, out-Elem}
-use Rattle.markup_tree.specs.declared.tree.Node.{Node}
-use Rattle.markup_tree.specs.declared.tree.Node.TheVariants.{rolls-Char}
+use Rattle.markup_nodes.specs.declared.tree.Elem.{Elem, out-Elem}
+use Rattle.markup_nodes.specs.Node.{Element}
 use Rattle.markup_tree.specs.Documents.{Reaches, behind_tag, place_of}
 use Rattle.markup_tree.specs.Pieces.{Silent, Begins, Ends, Holds, Declares, line_ends}
-use Rattle.markup_tree.specs.Stacks.{name_of, elem_node, spot_in}
+use Rattle.markup_tree.specs.Stacks.{name_of, spot_in}
 use Rattle.markup_tree.proofs.ReaderLemmas.{inside_open, read_fits, nothing_below}
 use Rattle.markup_tree.proofs.StackLemmas.{holding, behind_held, behind_deep, behind_few, behind_other, behind_root, behind_parent}
+use Rattle.markup_tree.proofs.TextRunLemmas.{run_reached}
 use Rattle.markup_tree.proofs.WayLemmas.{on_step, stopped_fault, refused_fault}
 use Rattle.markup_tree.proofs.reader.to_close.Goals as goal
 
@@ -29,11 +29,11 @@ returns-then-not-is_word-clause-fault c =
     (behind_other (place_of (chars c.args.whole.now) (chars c.content.rest.now)) c.content.below.items c.content.top (chars c.content.rest.now) (chars c.in-Ok.found.1.now) (chars c.in-End.name.now) apart)
     c.offence_at-then-not-is_word.ensures c.place-then-not-is_word.ensures.place
 
-pub returns-in_default-pop-clause-read : goal.returns-in_default-pop-clause-read
-returns-in_default-pop-clause-read c =
+pub returns-in_default-clause-read : goal.returns-in_default-clause-read
+returns-in_default-clause-read c =
     let same : bytes_eq (name_of c.content.top) (chars c.in-End.name.now) ≡ true =
     ap (λ (word : List ℕ). bytes_eq word (chars c.in-End.name.now)) (sym c.get.ensures) ∙ (sym c.is_word.ensures ∙ c.if-not-is_word.false) in
-    let alone : c.content.below.items ≡ [] = nothing_below c.content.below.items (omega (arith, c.in_default-pop.ensures.cases.0, c.content.below.ok)) in
+    let alone : c.content.below.items ≡ [] = nothing_below c.content.below.items (omega (arith, c.in_default.ensures.cases.0, c.content.below.ok)) in
     on_step (chars c.args.whole.now) (spot_in c.content.below.items c.content.top (chars c.content.rest.now)) (Ends (chars c.in-End.name.now)) (chars c.in-Ok.found.1.now)
     (rw c.in-End.is at c.in-Ok.ensures.read) c.content.invariant.2 _
     (behind_root (place_of (chars c.args.whole.now) (chars c.content.rest.now)) c.content.below.items c.content.top (chars c.content.rest.now) (chars c.in-Ok.found.1.now) (chars c.in-End.name.now) same alone)
@@ -55,8 +55,7 @@ content-preserved-in_ok-push-in-Char c = (
   omega (arith, c.in-Ok.ensures.shorter, c.content.invariant.0),
   c.content.invariant.1,
   on_step (chars c.args.whole.now) (spot_in c.content.below.items c.content.top (chars c.content.rest.now)) (Holds (c.in-Char.c ∷ [])) (chars c.in-Ok.found.1.now) (rw c.in-Char.is at c.in-Ok.ensures.read) c.content.invariant.2 _
-      (behind_held (place_of (chars c.args.whole.now) (chars c.content.rest.now)) c.content.below.items c.content.top (chars c.content.rest.now) (chars c.in-Ok.found.1.now) c.push-in-Char.new.self (c.in-Char.c ∷ [])
-      (c.in_ok-push-in-Char.ensures.ok ∙ ap (λ (node : Node). c.content.top.nodes ++ node ∷ []) (sym (rolls-Char c.in-Char.c)))),
+      (behind_held (place_of (chars c.args.whole.now) (chars c.content.rest.now)) c.content.below.items c.content.top (chars c.content.rest.now) (chars c.in-Ok.found.1.now) c.push.new.self (c.in-Char.c ∷ []) c.in_ok-push-in-Char.ensures.ok),
   search rules,
 )
 
@@ -91,28 +90,24 @@ content-preserved c =
     let place = place_of (chars c.args.whole.now) (chars c.content.rest.now) in
     let same : bytes_eq (name_of c.content.top) (chars c.in-End.name.now) ≡ true =
     ap (λ (word : List ℕ). bytes_eq word (chars c.in-End.name.now)) (sym c.get.ensures) ∙ (sym c.is_word.ensures ∙ c.if-not-is_word.false) in
-    let popped : c.content.below.items ≡ c.pop.new.self.items ++ c.in-Some-pop.parent ∷ [] = c.in-Some-pop.ensures.items in
-    let is : c.replace-elem.new.dest ≡ c.in-Some-pop.parent = c.replace-elem.ensures.after in
-    let nodes : c.push_element.new.nodes ≡ (out-Elem c.in-Some-pop.parent).nodes ++ elem_node c.content.top =
-    c.in_ok-push_element-in-End.ensures ∙ (ap (λ (elem : Elem). (out-Elem elem).nodes ++ elem_node c.replace-elem.result) is
-    ∙ ap (λ (elem : Elem). (out-Elem c.in-Some-pop.parent).nodes ++ elem_node elem) c.replace-elem.ensures.value) in (
+    let popped : c.content.below.items ≡ c.pop.new.self.items ++ c.in-Some.parent ∷ [] = c.in-Some.ensures.items in
+    let is : c.replace-elem.new.dest ≡ c.in-Some.parent = c.replace-elem.ensures.after in
+    let nodes : c.push_elem.new.self ≡ (out-Elem c.in-Some.parent).nodes ++ Element c.content.top ∷ [] =
+    c.in_ok-push_elem-in-End.ensures.ok ∙ (ap (λ (elem : Elem). (out-Elem elem).nodes ++ Element c.replace-elem.result ∷ []) is
+    ∙ ap (λ (elem : Elem). (out-Elem c.in-Some.parent).nodes ++ Element elem ∷ []) c.replace-elem.ensures.value) in (
       omega (arith, c.in-Ok.ensures.shorter, c.content.invariant.0),
-      omega (arith, c.in-Some-pop.ensures.cases, c.content.invariant.1),
-      subst (λ (elem : Elem). Reaches (chars c.args.whole.now) (spot_in c.pop.new.self.items (holding elem c.push_element.new.nodes) (chars c.in-Ok.found.1.now))) (sym is)
+      omega (arith, c.in-Some.ensures.cases, c.content.invariant.1),
+      subst (λ (elem : Elem). Reaches (chars c.args.whole.now) (spot_in c.pop.new.self.items (holding elem c.push_elem.new.self) (chars c.in-Ok.found.1.now))) (sym is)
           (on_step (chars c.args.whole.now) (spot_in c.content.below.items c.content.top (chars c.content.rest.now)) (Ends (chars c.in-End.name.now)) (chars c.in-Ok.found.1.now) (rw c.in-End.is at c.in-Ok.ensures.read) c.content.invariant.2 _
-          (behind_parent place c.content.below.items c.content.top (chars c.content.rest.now) (chars c.in-Ok.found.1.now) (chars c.in-End.name.now) c.pop.new.self.items c.in-Some-pop.parent c.push_element.new.nodes same popped nodes)),
+          (behind_parent place c.content.below.items c.content.top (chars c.content.rest.now) (chars c.in-Ok.found.1.now) (chars c.in-End.name.now) c.pop.new.self.items c.in-Some.parent c.push_elem.new.self same popped nodes)),
       search rules,
     )
 
-pub content-preserved-in-Some : goal.content-preserved-in-Some
-content-preserved-in-Some c =
-    let whole = chars c.args.whole.now in
-    let here = chars c.content.rest.now in
-    let behind = chars c.in-Some.behind.now in (
-      omega (arith, c.in-Some.ensures.shorter, c.content.invariant.0),
-      c.content.invariant.1,
-      on_step whole (spot_in c.content.below.items c.content.top here) (Holds (c.in-Some.c ∷ [])) behind c.in-Some.ensures.read c.content.invariant.2 _
-          (behind_held (place_of whole here) c.content.below.items c.content.top here behind c.push.new.self (c.in-Some.c ∷ [])
-          (c.in_ok-push.ensures.ok ∙ ap (λ (node : Node). c.content.top.nodes ++ node ∷ []) (sym (rolls-Char c.in-Some.c)))),
-      search rules,
-    )
+pub content-preserved-then-not-is_nothing : goal.content-preserved-then-not-is_nothing
+content-preserved-then-not-is_nothing c = (
+  omega (arith, c.run.ensures.shorter, c.content.invariant.0),
+  c.content.invariant.1,
+  run_reached (chars c.args.whole.now) c.content.below.items c.content.top (chars c.run.result.0.now) (chars c.run.result.1.now) c.push_str.new.self c.run.ensures.all c.in_ok-push_str.ensures.ok
+      (subst (λ (t : List ℕ). Reaches (chars c.args.whole.now) (spot_in c.content.below.items c.content.top t)) c.run.ensures.text c.content.invariant.2),
+  search rules,
+)

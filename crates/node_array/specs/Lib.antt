@@ -1,0 +1,4 @@
+pub mod Body
+pub mod Held
+pub mod Places
+pub mod Rows

@@ -1,0 +1,5 @@
+pub mod Digits
+pub mod Names
+pub mod Sums
+pub mod Spelled
+pub mod Texts

@@ -1,0 +1,4 @@
+pub mod Counts
+pub mod Finds
+pub mod Halves
+pub mod Parts
