@@ -3,3 +3,4 @@ pub mod Texts
 pub mod Fronts
 pub mod Pieces
 pub mod Written
+pub mod Stated

@@ -2,10 +2,12 @@
 #![tactic(auto)]
 
 mod keys;
+mod laws;
 mod parts;
 mod shown;
 
 pub use keys::key_of;
+pub use laws::displays_say_what_styles_state;
 pub use parts::{KeyParts, Shown, SpanDisplay};
 
 #[cfg(test)]
