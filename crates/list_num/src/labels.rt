@@ -104,10 +104,8 @@ fn numbered_label(
     full.push_str(prefix.get())?;
     full.push_str(plain.get())?;
     full.push_str(suffix.get())?;
-    Ok(Label {
-        full: full.into_txt(),
-        plain,
-    })
+    let full = full.into_txt();
+    Ok(Label { full, plain })
 }
 
 /// The numbers that a label of an own level shows, with full stops between them.

@@ -6,3 +6,6 @@ mod counts;
 mod labels;
 
 pub use counts::Counts;
+
+#[cfg(test)]
+mod tests;
