@@ -18,16 +18,16 @@ use Rattle.node_array.specs.declared.row.Row.TheVariants as row
 use Rattle.node_array.specs.Rows.{of_what, of_item, of_note, of_par, par_rows, of_block, of_section, block_rows, rows_of}
 use Rattle.node_array.specs.Body.{Level, what_with, texts_left, with_text, texts_behind, with_texts, put_block, put_texts, par_of, pars_of, read_row, levels_of, blocks_of, body_of}
 
-abbrev item_rows : Item → Item × List Row
+abbrev pub item_rows : Item → Item × List Row
 item_rows = fold-Item (What × List Row) (Item × List Row) (Note × List Row) (List Row) of_what of_item of_note of_par
 
-abbrev what_rows : What → What × List Row
+abbrev pub what_rows : What → What × List Row
 what_rows = fold-What (What × List Row) (Item × List Row) (Note × List Row) (List Row) of_what of_item of_note of_par
 
-abbrev note_rows : Note → Note × List Row
+abbrev pub note_rows : Note → Note × List Row
 note_rows = fold-Note (What × List Row) (Item × List Row) (Note × List Row) (List Row) of_what of_item of_note of_par
 
-abbrev section_rows : Section → List Row
+abbrev pub section_rows : Section → List Row
 section_rows = fold-Section (List Row) (List Row) of_block of_section
 
 -- the texts of a note, which are one, or of what is no note, which are none
@@ -64,16 +64,16 @@ abbrev Reads-Par : Par → Type 0
 Reads-Par par = (more : List Row) → levels_of (par_rows par ++ more) ≡ put_block (par_block par) (levels_of more)
 
 -- what each comes to, one level deep
-par_opens : (x : Par-F What Item Note Par) → par_rows (roll-Par x) ≡ row.Par (record { id = x.id; style = x.style; level = x.level; list = x.list }) (map (λ i. i.0) (map item_rows x.items)) ∷ flat_map (λ i. i.1) (map item_rows x.items)
+pub par_opens : (x : Par-F What Item Note Par) → par_rows (roll-Par x) ≡ row.Par (record { id = x.id; style = x.style; level = x.level; list = x.list }) (map (λ i. i.0) (map item_rows x.items)) ∷ flat_map (λ i. i.1) (map item_rows x.items)
 par_opens x = simp fold-roll-Par
 
-note_opens : (x : Note-F What Item Note Par) → note_rows (roll-Note x) ≡ (roll-Note (record { id = x.id; class = x.class; pars = [] }), row.NoteText ∷ (flat_map (λ rows. rows) (map par_rows x.pars) ++ row.End ∷ []))
+pub note_opens : (x : Note-F What Item Note Par) → note_rows (roll-Note x) ≡ (roll-Note (record { id = x.id; class = x.class; pars = [] }), row.NoteText ∷ (flat_map (λ rows. rows) (map par_rows x.pars) ++ row.End ∷ []))
 note_opens x = simp fold-roll-Note
 
-item_opens : (x : Item-F What Item Note Par) → item_rows (roll-Item x) ≡ (roll-Item (record { spans = x.spans; what = (what_rows x.what).0 }), (what_rows x.what).1)
+pub item_opens : (x : Item-F What Item Note Par) → item_rows (roll-Item x) ≡ (roll-Item (record { spans = x.spans; what = (what_rows x.what).0 }), (what_rows x.what).1)
 item_opens x = simp fold-roll-Item
 
-section_opens : (x : Section-F Block Section) → section_rows (roll-Section x) ≡ row.Start (record { kind = x.kind; name = x.name; style = x.style; protected = x.protected; hidden = x.hidden; source = x.source }) ∷ (flat_map (λ rows. rows) (map block_rows x.blocks) ++ row.End ∷ [])
+pub section_opens : (x : Section-F Block Section) → section_rows (roll-Section x) ≡ row.Start (record { kind = x.kind; name = x.name; style = x.style; protected = x.protected; hidden = x.hidden; source = x.source }) ∷ (flat_map (λ rows. rows) (map block_rows x.blocks) ++ row.End ∷ [])
 section_opens x = simp fold-roll-Section
 
 -- texts put in front

@@ -3,6 +3,7 @@
 
 mod laws;
 mod node_array;
+mod placed;
 mod row;
 
 pub use laws::same_rows;

@@ -1,11 +1,13 @@
 //! The node array.
-ghost use Rattle.std.specs.Prelude.{◌≡◌, ◌<◌, ◌≤◌, [], length, IfOk, OnOk, OnErr, Some, slice_get, position, List};
+ghost use Rattle.std.specs.Prelude.{◌≡◌, ◌<◌, ◌≤◌, [], length, take, IfOk, OnOk, OnErr, Some, slice_get, position, List};
 ghost use Rattle.std.specs.List.{between, splice};
 ghost use Rattle.doc_model.specs.declared.block.Block.{Block};
 ghost use Rattle.node_array.specs.Rows.{rows_of};
 ghost use Rattle.node_array.specs.Places.{is_par};
-ghost use Rattle.node_array.specs.Held.{plain_rows, tagged_rows};
+ghost use Rattle.node_array.specs.Containers.{containers_of};
+ghost use Rattle.node_array.specs.Held.{Holds, plain_rows, placed_rows, depth_behind};
 
+use crate::placed::{Placed, around, next, tag};
 use crate::row::Row;
 use doc_model::{List, ParId};
 use std::alloc::{AllocError, Global};
@@ -19,7 +21,7 @@ use tagged_list::{Tag, Tagged, TaggedList};
 #[derive(Drop)]
 pub struct NodeArray {
     alloc: Global,
-    rows: TaggedList<Row>,
+    rows: TaggedList<Placed>,
 }
 
 impl Model for NodeArray {
@@ -65,7 +67,7 @@ impl NodeArray {
         requires in_range { at < length (rows_of self.now) }
         ensures { slice_get (rows_of self.now) at ≡ Some result.now }
     {
-        self.rows.get(at).item()
+        &self.rows.get(at).item().row
     }
 
     /// The place of the row of the paragraph with this number, if it has one. It takes no memory, and costs the square of
@@ -76,6 +78,21 @@ impl NodeArray {
         ensures { result ≡ position (is_par par) (rows_of self.now) }
     {
         self.rows.first(Tag::Number(par.0))
+    }
+
+    /// The place of the innermost Start or NoteText row round the row at a place, both counted from 0, or none where it
+    /// stands in the body itself. An End row stands where its Start or NoteText row does. It takes no memory, and costs the
+    /// square of the logarithm of the number of rows.
+    pub fn container(&self, at: usize) -> Option<usize>
+        requires in_range { at < length (rows_of self.now) }
+        ensures { slice_get (containers_of self.now) at ≡ Some result }
+    {
+        let placed = self.rows.get(at).item();
+        let around = around(placed.depth, &placed.row);
+        if around == 0 {
+            return None;
+        }
+        self.rows.last_before(Tag::Depth(around - 1), at)
     }
 
     /// An array of the same rows, which has all in common with this one. It takes no memory, and is refused only where a
@@ -106,8 +123,9 @@ impl NodeArray {
         ensures err { OnErr result (self.new ≡ self.old) }
     {
         let removed = copied(self.alloc, &self.rows, from, to)?;
-        let tagged = tagged(self.alloc, rows)?;
-        self.rows.splice(from, to, &tagged)?;
+        let depth = depth_at(&self.rows, from);
+        let placed = placed(self.alloc, depth, rows)?;
+        self.rows.splice(from, to, &placed)?;
         Ok(removed)
     }
 }
@@ -115,7 +133,7 @@ impl NodeArray {
 // Copies of the rows of a range.
 fn copied(
     alloc: Global,
-    rows: &TaggedList<Row>,
+    rows: &TaggedList<Placed>,
     from: usize,
     to: usize,
 ) -> Result<List<Row>, AllocError>
@@ -125,19 +143,34 @@ fn copied(
 {
     let mut copies = Vec::new(alloc);
     for at in from..to {
-        copies.push(rows.get(at).item().copy()?)?;
+        copies.push(rows.get(at).item().row.copy()?)?;
     }
     Ok(List::from_list(copies))
 }
 
-// Copies of rows with their tags.
-fn tagged(alloc: Global, rows: &[Row]) -> Result<Vec<Tagged<Row>>, AllocError>
-    ensures { IfOk result (λ tagged. tagged.items ≡ tagged_rows rows.now) }
+// How many sections and notes are open before a place.
+fn depth_at(rows: &TaggedList<Placed>, at: usize) -> u32
+    requires holds { Holds rows.now }
+    requires in_range { at ≤ length rows.now }
+    ensures { result ≡ depth_behind 0 (take at (plain_rows rows.now)) }
 {
-    let mut tagged = Vec::with_capacity(alloc, rows.len())?;
+    if at == rows.len() {
+        return 0;
+    }
+    rows.get(at).item().depth
+}
+
+// Copies of rows with their tags and depths, where so many sections and notes are open before the first.
+fn placed(alloc: Global, depth: u32, rows: &[Row]) -> Result<Vec<Tagged<Placed>>, AllocError>
+    ensures { IfOk result (λ placed. placed.items ≡ placed_rows depth rows.now) }
+{
+    let mut placed = Vec::with_capacity(alloc, rows.len())?;
+    let mut depth = depth;
     for row in rows {
         let copy = row.copy()?;
-        tagged.push(Tagged::new(alloc, row.tag(), copy)?)?;
+        let tag = tag(depth, row);
+        placed.push(Tagged::new(alloc, tag, Placed { depth, row: copy })?)?;
+        depth = next(depth, row)?;
     }
-    Ok(tagged)
+    Ok(placed)
 }

@@ -1,12 +1,10 @@
 //! Rows, and what stands in them.
 
 ghost use Rattle.std.specs.Prelude.{◌≡◌, IfOk};
-ghost use Rattle.node_array.specs.Held.{tag_of};
 
 use doc_model::{Item, Kind, Name, ParHead, SectionSource};
 use run_text::RunText;
 use std::alloc::AllocError;
-use tagged_list::Tag;
 
 /// A row of a node array.
 #[derive(Debug, Drop)]
@@ -61,18 +59,6 @@ impl SectionHead {
 }
 
 impl Row {
-    // What the row is found by.
-    pub(crate) fn tag(&self) -> Option<Tag>
-        ensures { result ≡ tag_of self.now }
-    {
-        match self {
-            Row::Start(_head) => None,
-            Row::End => None,
-            Row::Par(head, _items) => Some(Tag::Number(head.id.0)),
-            Row::NoteText => None,
-        }
-    }
-
     pub fn copy(&self) -> Result<Row, AllocError>
         ensures { IfOk result (λ c. c ≡ self.now) }
     {

@@ -9,5 +9,5 @@ loop-at-preserved c =
     let front = between c.args.from c.loop-at.at (plain_rows c.args.rows.now) in
     c.in_ok-push.ensures.items
     ∙ (ap (λ rs. rs ++ c.in_ok-copy.field-0 ∷ []) c.loop-at.invariant
-    ∙ (ap (λ r. front ++ r ∷ []) (c.in_ok-copy.ensures ∙ c.item.ensures)
+    ∙ (ap (λ r. front ++ r ∷ []) (c.in_ok-copy.ensures ∙ ap (λ p. p.row) c.item.ensures)
     ∙ sym (plain_more c.args.rows.now c.args.from c.loop-at.at c.get.result.now (omega arith) c.get.ensures)))
