@@ -1,4 +1,5 @@
 pub mod Counting
+pub mod Entering
 pub mod Finding
 pub mod Joining
 pub mod Labelling

@@ -16,7 +16,7 @@ use Rattle.field_model.specs.Labels.{counted_place, places_counted_by, item_coun
 use Rattle.list_num.specs.Counters.{count_in, count_behind}
 use Rattle.list_num.specs.declared.counts.StyleCounts.{StyleCounts}
 use Rattle.list_num.specs.declared.counts.Counts.{Counts}
-use Rattle.list_num.specs.Counts.{AreCountersOf, AreOfStyle, HaveCounted}
+use Rattle.list_num.specs.Counts.{AreCountersOf, AreOfStyle, HaveCounted, IsUnknown}
 use Rattle.std.specs.HashMap.{get}
 use Rattle.list_num.proofs.Counting.{item_count-push}
 
@@ -96,30 +96,30 @@ levels_named-list lists outline (first ∷ rest) some = refl
 -- ---- list styles
 
 -- the look-ups behind a paragraph that no list style counts
-pub styles-kept : (lists : List ListStyle) (before after : List ParHead) (name : List ℕ) (o : Option StyleCounts) → places_counted_by name after ≡ places_counted_by name before
-    → MatchOption o (places_counted_by name before ≡ []) (AreOfStyle lists before name) → MatchOption o (places_counted_by name after ≡ []) (AreOfStyle lists after name)
-styles-kept lists before after name None same none = same ∙ none
-styles-kept lists before after name (Some style) same of_style = record { counters = counters-kept name before after style.counters same of_style.counters; place = of_style.place }
+pub styles-kept : (lists : List ListStyle) (known : ℕ) (before after : List ParHead) (name : List ℕ) (o : Option StyleCounts) → places_counted_by name after ≡ places_counted_by name before
+    → MatchOption o (IsUnknown lists before known name) (AreOfStyle lists before name) → MatchOption o (IsUnknown lists after known name) (AreOfStyle lists after name)
+styles-kept lists known before after name None same none = record { places = same ∙ none.places; unseen = none.unseen }
+styles-kept lists known before after name (Some style) same of_style = record { counters = counters-kept name before after style.counters same of_style.counters; place = of_style.place }
 
 -- the look-ups of list styles behind a paragraph, where the counters of its own style alone are new
-pub styles-next : (lists : List ListStyle) (before : List ParHead) (head : ParHead) (place : ListPos) (style : StyleCounts) (had has : List ℕ → Option StyleCounts) → counted_place head ≡ Some place
-    → ((name : List ℕ) → name ≢ [] → MatchOption (had name) (places_counted_by name before ≡ []) (AreOfStyle lists before name))
+pub styles-next : (lists : List ListStyle) (known : ℕ) (before : List ParHead) (head : ParHead) (place : ListPos) (style : StyleCounts) (had has : List ℕ → Option StyleCounts) → counted_place head ≡ Some place
+    → ((name : List ℕ) → name ≢ [] → MatchOption (had name) (IsUnknown lists before known name) (AreOfStyle lists before name))
     → AreOfStyle lists (before ++ head ∷ []) place.style style
     → ((name : List ℕ) → has name ≡ cond (bytes_eq place.style name) (Some style) (had name))
-    → (name : List ℕ) → name ≢ [] → MatchOption (has name) (places_counted_by name (before ++ head ∷ []) ≡ []) (AreOfStyle lists (before ++ head ∷ []) name)
-styles-next lists before head place style had has is counted own updates name named = by_test (bytes_eq place.style name) refl where
+    → (name : List ℕ) → name ≢ [] → MatchOption (has name) (IsUnknown lists (before ++ head ∷ []) known name) (AreOfStyle lists (before ++ head ∷ []) name)
+styles-next lists known before head place style had has is counted own updates name named = by_test (bytes_eq place.style name) refl where
   after : List ParHead
   after = before ++ head ∷ []
 
-  by_test : (b : Bool) → bytes_eq place.style name ≡ b → MatchOption (has name) (places_counted_by name after ≡ []) (AreOfStyle lists after name)
+  by_test : (b : Bool) → bytes_eq place.style name ≡ b → MatchOption (has name) (IsUnknown lists after known name) (AreOfStyle lists after name)
   by_test true e =
       let found : has name ≡ Some style = updates name ∙ ap (λ (b : Bool). cond b (Some style) (had name)) e in
       let here : AreOfStyle lists after name style = subst (λ (n : List ℕ). AreOfStyle lists after n style) ((bytes_eq-Decides place.style name).0 e) own in
-      subst (λ (o : Option StyleCounts). MatchOption o (places_counted_by name after ≡ []) (AreOfStyle lists after name)) (sym found) here
+      subst (λ (o : Option StyleCounts). MatchOption o (IsUnknown lists after known name) (AreOfStyle lists after name)) (sym found) here
   by_test false e =
       let found : has name ≡ had name = updates name ∙ ap (λ (b : Bool). cond b (Some style) (had name)) e in
       let other = places-other name before head place is (not_from_Decides (bytes_eq place.style name) (bytes_eq-Decides place.style name) e) in
-      subst (λ (o : Option StyleCounts). MatchOption o (places_counted_by name after ≡ []) (AreOfStyle lists after name)) (sym found) (styles-kept lists before after name (had name) other (counted name named))
+      subst (λ (o : Option StyleCounts). MatchOption o (IsUnknown lists after known name) (AreOfStyle lists after name)) (sym found) (styles-kept lists known before after name (had name) other (counted name named))
 
 -- ---- where a paragraph is counted
 
@@ -143,7 +143,7 @@ place-text head is none = rw (is, none) refl
 pub have-none : (lists : List ListStyle) (before : List ParHead) (head : ParHead) (counts : Counts) → counted_place head ≡ None → HaveCounted lists before counts → HaveCounted lists (before ++ head ∷ []) counts
 have-none lists before head counts none counted = record {
   outline = counters-kept [] before (before ++ head ∷ []) counts.outline (places-none [] before head none) counted.outline;
-  styles = λ name named. styles-kept lists before (before ++ head ∷ []) name (get bytes_eq counts.lists name) (places-none name before head none) (counted.styles name named);
+  styles = λ name named. styles-kept lists counts.known before (before ++ head ∷ []) name (get bytes_eq counts.lists name) (places-none name before head none) (counted.styles name named);
 }
 
 -- a name without bytes is empty

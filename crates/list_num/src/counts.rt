@@ -1,10 +1,12 @@
 //! Counting through the paragraphs of a document.
 
-ghost use Rattle.std.specs.Prelude.{◌≡◌, ◌≢◌, ℕ, ◌≤◌, [], ◌∷◌, ◌++◌, List, Some, IfOk, OnErr};
+ghost use Rattle.std.specs.Prelude.{◌≡◌, ◌≢◌, ℕ, ◌≤◌, [], ◌∷◌, ◌++◌, List, None, Some, cond, IfOk, OnOk, OnErr};
+ghost use Rattle.std.specs.HashMap.{get};
+ghost use Rattle.std.specs.Str.{bytes_eq};
 ghost use Rattle.std.specs.Option.{ForSome};
 ghost use Rattle.doc_model.specs.declared.paragraph.ParHead.{ParHead as Head};
 ghost use Rattle.doc_model.specs.declared.list_style.ListStyle.{ListStyle as Style};
-ghost use Rattle.field_model.specs.Labels.{label_behind, counted_place, style_named, levels_of, outline_place};
+ghost use Rattle.field_model.specs.Labels.{label_behind, counted_place, levels_of, outline_place};
 ghost use Rattle.list_num.specs.Counters.{style_at};
 
 use crate::counters::{Counters, Step, counters_behind};
@@ -18,6 +20,8 @@ use std::collections::HashMap;
 pub struct Counts {
     outline: Counters,
     lists: HashMap<Name, StyleCounts>,
+    /// So many list styles, from the first on, have entries.
+    known: usize,
 }
 
 /// The counters of a list style, and where it stands among the list styles, if it does.
@@ -28,7 +32,7 @@ pub(crate) struct StyleCounts {
 }
 
 impl Counts {
-    ghost use Rattle.list_num.specs.Counts.{HaveCounted, AreUnchanged, AreOfStyle};
+    ghost use Rattle.list_num.specs.Counts.{HaveCounted, AreOfStyle, entered};
 
     /// The counts before the first paragraph. It takes no memory.
     pub fn new(alloc: Global) -> Counts
@@ -37,12 +41,14 @@ impl Counts {
         Counts {
             outline: [0; 10],
             lists: HashMap::new(alloc),
+            known: 0,
         }
     }
 
     /// Counts a paragraph, the next in reading order, and answers its label: that of the document whose list styles and
     /// outline style these are, where it was called for all paragraphs before with the same list styles. A note's
-    /// paragraphs are read behind the paragraph that cites it. After want of memory nothing is counted.
+    /// paragraphs are read behind the paragraph that cites it. After want of memory nothing is counted. A list style is
+    /// sought once, and all are looked at once.
     pub fn label_one(
         &mut self,
         head: &ParHead,
@@ -55,7 +61,7 @@ impl Counts {
 
         ensures label { (before : List Head) → HaveCounted lists.now before self.old → IfOk result (λ label. label ≡ label_behind lists.now outline.now before head.now) }
         ensures counted { (before : List Head) → HaveCounted lists.now before self.old → IfOk result (λ _. HaveCounted lists.now (before ++ head.now ∷ []) self.new) }
-        ensures err { OnErr result (AreUnchanged self.old self.new) }
+        ensures err { (before : List Head) → HaveCounted lists.now before self.old → OnErr result (HaveCounted lists.now before self.new) }
     {
         match &head.list {
             Some(place) => {
@@ -84,7 +90,7 @@ impl Counts {
         requires most { level ≤ 10 }
         ensures label { (lists : List Style) (before : List Head) (head : Head) → counted_place head ≡ Some (outline_place level) → HaveCounted lists before self.old → IfOk result (λ label. label ≡ label_behind lists outline.now before head) }
         ensures counted { (lists : List Style) (before : List Head) (head : Head) → counted_place head ≡ Some (outline_place level) → HaveCounted lists before self.old → IfOk result (λ _. HaveCounted lists (before ++ head ∷ []) self.new) }
-        ensures err { OnErr result (AreUnchanged self.old self.new) }
+        ensures err { (lists : List Style) (before : List Head) → HaveCounted lists before self.old → OnErr result (HaveCounted lists before self.new) }
     {
         let step = Step {
             level,
@@ -104,10 +110,10 @@ impl Counts {
         requires most { place.now.level ≤ 10 }
         ensures label { (outline : Style) (before : List Head) (head : Head) → counted_place head ≡ Some place.now → HaveCounted lists.now before self.old → IfOk result (λ label. label ≡ label_behind lists.now outline before head) }
         ensures counted { (before : List Head) (head : Head) → counted_place head ≡ Some place.now → HaveCounted lists.now before self.old → IfOk result (λ _. HaveCounted lists.now (before ++ head ∷ []) self.new) }
-        ensures err { OnErr result (AreUnchanged self.old self.new) }
+        ensures err { (before : List Head) → HaveCounted lists.now before self.old → OnErr result (HaveCounted lists.now before self.new) }
     {
         let alloc = place.style.allocator();
-        let style = self.style_counts(&place.style, lists);
+        let style = self.style_counts(&place.style, lists)?;
         let step = Step {
             level: place.level,
             item: place.item,
@@ -126,31 +132,62 @@ impl Counts {
         Ok(label)
     }
 
-    /// What is known of a list style.
-    fn style_counts(&self, name: &Name, lists: &[ListStyle]) -> StyleCounts
+    /// What is known of a list style. One that is met first has counted nothing.
+    fn style_counts(&mut self, name: &Name, lists: &[ListStyle]) -> Result<StyleCounts, AllocError>
         requires { name.now ≢ [] }
-        ensures { (before : List Head) → HaveCounted lists.now before self.now → AreOfStyle lists.now before name.now result }
+        ensures style { (before : List Head) → HaveCounted lists.now before self.old → IfOk result (AreOfStyle lists.now before name.now) }
+        ensures kept { (before : List Head) → HaveCounted lists.now before self.old → HaveCounted lists.now before self.new }
     {
-        match self.lists.get(name) {
-            Some(style) => *style,
-            None => StyleCounts {
-                at: find_style(lists, name),
+        match self.lists.get(name).copied() {
+            Some(style) => Ok(style),
+            None => self.find_style(name, lists),
+        }
+    }
+
+    /// Seeks a list style that has no entry, and enters those before it.
+    fn find_style(&mut self, name: &Name, lists: &[ListStyle]) -> Result<StyleCounts, AllocError>
+        requires named { name.now ≢ [] }
+        requires unknown { get bytes_eq self.old.lists name.now ≡ None }
+        ensures style { (before : List Head) → HaveCounted lists.now before self.old → IfOk result (AreOfStyle lists.now before name.now) }
+        ensures kept { (before : List Head) → HaveCounted lists.now before self.old → HaveCounted lists.now before self.new }
+    {
+        'styles: while self.known < lists.len() {
+            let list = &lists[self.known];
+            if list.name.is_same(name) {
+                return Ok(StyleCounts {
+                    at: Some(self.known),
+                    counters: [0; 10],
+                });
+            }
+            self.enter(&list.name)?;
+            self.known += 1;
+        }
+        Ok(StyleCounts {
+            at: None,
+            counters: [0; 10],
+        })
+    }
+
+    /// Enters the next list style, which has this name, unless the name has an entry.
+    fn enter(&mut self, name: &Name) -> Result<(), AllocError>
+        ensures ok { OnOk result ((other : List ℕ) → get bytes_eq self.new.lists other ≡ cond (bytes_eq name.now other) (Some (entered self.old.known (get bytes_eq self.old.lists name.now))) (get bytes_eq self.old.lists other)) }
+        ensures err { OnErr result (self.new.lists.entries ≡ self.old.lists.entries) }
+        ensures outline { self.new.outline ≡ self.old.outline }
+        ensures known { self.new.known ≡ self.old.known }
+    {
+        if self.lists.contains_key(name) {
+            return Ok(());
+        }
+        let key = name.copy()?;
+        self.lists.insert(
+            key,
+            StyleCounts {
+                at: Some(self.known),
                 counters: [0; 10],
             },
-        }
+        )?;
+        Ok(())
     }
-}
-
-/// The place of the list style of a name.
-fn find_style(lists: &[ListStyle], name: &Name) -> Option<usize>
-    ensures { style_at lists.now result ≡ style_named lists.now name.now }
-{
-    'styles: for (index, list) in lists.iter().enumerate() {
-        if list.name.is_same(name) {
-            return Some(index);
-        }
-    }
-    None
 }
 
 /// The levels of the list style at a place.

@@ -14,6 +14,6 @@ returns-clause-label c lists before head is counted =
 pub returns-clause-counted : goal.returns-clause-counted
 returns-clause-counted c lists before head is counted = record {
   outline = counters-next [] before head (outline_place c.args.level) c.args.self.now.outline c.in_ok-counters.counters is refl counted.outline c.in_ok-counters.ensures;
-  styles = λ name named. styles-kept lists before (before ++ head ∷ []) name (get bytes_eq c.args.self.now.lists name)
+  styles = λ name named. styles-kept lists c.args.self.now.known before (before ++ head ∷ []) name (get bytes_eq c.args.self.now.lists name)
       (places-other name before head (outline_place c.args.level) is (λ e. named (sym e))) (counted.styles name named);
 }
