@@ -33,11 +33,11 @@ field_of tag.SequenceReference is_first text attributes = Some (SeqRef (stated_o
 field_of tag.NoteReference is_first text attributes = Some (NoteRef (stated_or key.ReferenceName value.name_or_none [] attributes) (stated_or key.NoteClass value.note_class class.Footnote attributes) (stated_or key.ReferenceFormat value.reference_form form.Text attributes))
 field_of _ is_first text attributes = None
 
--- the rules of the attributes of a field
+-- the rules of the attributes of a field. An empty name is none, and no bad value: a field that needs one isn't kept without it, but for its text in a header
 abbrev pub field_rules : Tag → Bool → List Rule
-field_rules tag.Sequence is_first = rule key.TextName value.name ∷ rule key.ReferenceName (own_name is_first) ∷ rule key.NumberFormat value.number_format ∷ []
-field_rules tag.VariableSet is_first = rule key.TextName value.name ∷ []
-field_rules tag.VariableGet is_first = rule key.TextName value.name ∷ []
+field_rules tag.Sequence is_first = rule key.TextName value.name_or_none ∷ rule key.ReferenceName (own_name is_first) ∷ rule key.NumberFormat value.number_format ∷ []
+field_rules tag.VariableSet is_first = rule key.TextName value.name_or_none ∷ []
+field_rules tag.VariableGet is_first = rule key.TextName value.name_or_none ∷ []
 field_rules tag.Chapter is_first = rule key.Display value.chapter_display ∷ rule key.OutlineLevel value.level ∷ []
 field_rules tag.PageNumber is_first = rule key.SelectPage value.page_select ∷ rule key.PageAdjust value.page_adjust ∷ rule key.NumberFormat value.number_format ∷ []
 field_rules tag.PageCount is_first = rule key.NumberFormat value.number_format ∷ []
