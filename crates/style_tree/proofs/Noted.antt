@@ -13,6 +13,10 @@ use Rattle.style_tree.proofs.Marks.{some_same, mark_within}
 use Rattle.style_tree.proofs.Finding.{OnlyAt, find_noted, find_only, map_only, filter_only, marks_set}
 
 module _ (index : Index) (styles : List Style) (of : Family) (name : List ℕ) (says : Says index styles) where
+  -- what is found is what stands at the noted place
+  pub named_found : option_and_then (λ at. slice_get styles at) (place_in index of name) ≡ style_named styles of name
+  named_found = sym (find_noted (is_named of name) styles (place_in index of name) (says of name))
+
   -- a style that isn't noted isn't there
   pub named_none : place_in index of name ≡ None → style_named styles of name ≡ None
   named_none note = find_noted (is_named of name) styles (place_in index of name) (says of name) ∙ ap (option_and_then (λ at. slice_get styles at)) note

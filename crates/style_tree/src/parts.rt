@@ -47,6 +47,9 @@ pub fn put_in(
         return Err(AllocError);
     };
     index.add(family, name, count);
+    if at == count {
+        return Ok(());
+    }
     index.shift(Shift::Open(at, count));
     Ok(())
 }

@@ -1,6 +1,7 @@
 //! The styles of a document.
 ghost use Rattle.std.specs.Prelude.{◌≡◌, ◌↔◌, ◌<◌, ℕ, IfOk, Some, [], length, slice_get, option_copied};
 ghost use Rattle.std.specs.Arc.{arc_value};
+ghost use Rattle.std.specs.Option.{option_and_then};
 ghost use Rattle.style_model.specs.Lineage.{StandsAt, style_named};
 
 use crate::index::Index;
@@ -74,7 +75,8 @@ impl StyleTree {
     /// The place in the list, counted from 0, at which the style of this family and name stands; `None` where there is
     /// none. It takes no memory.
     pub fn place_of(&self, family: Family, name: &Name) -> Option<usize>
-        ensures { (place : ℕ) → (result ≡ Some place) ↔ StandsAt self.now.styles family name.now place }
+        ensures place { (place : ℕ) → (result ≡ Some place) ↔ StandsAt self.now.styles family name.now place }
+        ensures style { option_and_then (λ place. slice_get self.now.styles place) result ≡ style_named self.now.styles family name.now }
     {
         self.index.find(family, name)
     }
