@@ -14,6 +14,7 @@ use Rattle.doc_model.specs.declared.list_style.LevelWhat.TheVariants.{Bullet, Nu
 use Rattle.doc_model.specs.declared.page.Label.{Label}
 use Rattle.doc_model.specs.declared.document.Document.{Document}
 use Rattle.doc_model.specs.Reading.{paragraphs}
+use Rattle.field_model.specs.Cut.{cut}
 use Rattle.field_model.specs.Numbers.{shown_number}
 
 -- the head of a paragraph: all of it but its items
@@ -56,9 +57,13 @@ abbrev pub counted_items : ℕ → List ListPos → List ListPos
 counted_items level [] = []
 counted_items level (place ∷ later) = if is_item_of level place && not (list_any (clears level) later) then place ∷ counted_items level later else counted_items level later
 
--- the number of a level: the first item that counts has the start value, each further one more. A clear counter has the start value too
-abbrev pub level_number : ℕ → ℕ → List ListPos → ℕ
-level_number start level places = start + (length (counted_items level places) - 1)
+-- how many items of a level count behind these places
+abbrev pub item_count : List ListPos → ℕ → ℕ
+item_count places level = length (counted_items level places)
+
+-- the number of a level of which so many items count: the first has the start value, each further one more. A clear counter has the start value too
+abbrev pub level_number : ℕ → ℕ → ℕ
+level_number start count = start + (count - 1)
 
 -- whether levels of this format have no numbers
 abbrev pub is_empty_format : Format → Bool
@@ -72,54 +77,53 @@ is_shown own display level = nat_le level.level own && nat_lt own (level.level +
   has_numbers (Bullet bullet) = false
   has_numbers (Number format prefix suffix start shown) = not (is_empty_format format)
 
--- the number of a level as its format shows it
-abbrev pub shown_level : List ListPos → ListLevel → List ℕ
-shown_level places level = of_what level.what where
+-- the number of a level as its format shows it, where so many items of each level count
+abbrev pub shown_level : (ℕ → ℕ) → ListLevel → List ℕ
+shown_level count level = of_what level.what where
   of_what : LevelWhat → List ℕ
   of_what (Bullet bullet) = []
-  of_what (Number format prefix suffix start shown) = shown_number format (level_number start level.level places)
+  of_what (Number format prefix suffix start shown) = shown_number format (level_number start (count level.level))
 
 -- the numbers of the levels that a label shows, with full stops between them
-abbrev pub shown_levels : List ListLevel → List ListPos → ℕ → ℕ → List ℕ
-shown_levels levels places own display = join_with_byte 46 (map (shown_level places) (filter (is_shown own display) levels))
-
--- so many characters of a label are kept
-abbrev pub label_room : ℕ
-label_room = 512
+abbrev pub shown_levels : List ListLevel → (ℕ → ℕ) → ℕ → ℕ → List ℕ
+shown_levels levels count own display = join_with_byte 46 (map (shown_level count) (filter (is_shown own display) levels))
 
 -- the empty label
 abbrev pub no_label : Label
 no_label = record { full = []; plain = [] }
 
--- the label of an item, the last of these places of its style: the bullet, or prefix, numbers and suffix, and the numbers alone; none where the style lacks the level or it has no numbers
-abbrev pub item_label : List ListLevel → List ListPos → ℕ → Label
-item_label levels places own = of_level (find (λ level. level.level == own) levels) where
+-- the label of an item of an own level, where so many items of each level count, itself among them: the bullet, or prefix, numbers and suffix, and the numbers alone; none where the style lacks the level or it has no numbers
+abbrev pub item_label : List ListLevel → (ℕ → ℕ) → ℕ → Label
+item_label levels count own = of_level (find (λ level. level.level == own) levels) where
   of_what : LevelWhat → Label
   of_what (Bullet bullet) = record { full = bullet ∷ []; plain = bullet ∷ [] }
   of_what (Number format prefix suffix start display) = if is_empty_format format then no_label
-      else record { full = take label_room (prefix ++ (shown_levels levels places own display ++ suffix)); plain = take label_room (shown_levels levels places own display) }
+      else record { full = cut (prefix ++ (shown_levels levels count own display ++ suffix)); plain = cut (shown_levels levels count own display) }
 
   of_level : Option ListLevel → Label
   of_level None = no_label
   of_level (Some level) = of_what level.what
 
--- the levels of the list style of a name, or of the outline, whose name is empty
-abbrev pub levels_named : List ListStyle → ListStyle → List ℕ → List ListLevel
-levels_named lists outline name = of_name name where
-  of_found : Option ListStyle → List ListLevel
-  of_found None = []
-  of_found (Some list) = list.levels
+-- the levels of a list style, none where there is no style
+abbrev pub levels_of : Option ListStyle → List ListLevel
+levels_of None = []
+levels_of (Some list) = list.levels
 
-  of_name : List ℕ → List ListLevel
-  of_name [] = outline.levels
-  of_name (first ∷ rest) = of_found (find (λ list. bytes_eq list.name name) lists)
+-- the list style of a name
+abbrev pub style_named : List ListStyle → List ℕ → Option ListStyle
+style_named lists name = find (λ list. bytes_eq list.name name) lists
+
+-- the levels by which a name's places are labelled: those of its list style, or of the outline, whose name is empty
+abbrev pub levels_named : List ListStyle → ListStyle → List ℕ → List ListLevel
+levels_named lists outline [] = outline.levels
+levels_named lists outline (first ∷ rest) = levels_of (style_named lists (first ∷ rest))
 
 -- the label of the paragraph that comes behind those before it: it has one where it is an item
 abbrev pub label_behind : List ListStyle → ListStyle → List ParHead → ParHead → Label
 label_behind lists outline before head = of_place (counted_place head) where
   of_place : Option ListPos → Label
   of_place None = no_label
-  of_place (Some place) = if place.item then item_label (levels_named lists outline place.style) (places_counted_by place.style (before ++ head ∷ [])) place.level else no_label
+  of_place (Some place) = if place.item then item_label (levels_named lists outline place.style) (item_count (places_counted_by place.style (before ++ head ∷ []))) place.level else no_label
 
 -- the label of the paragraph at a place among all in reading order, from 0
 abbrev pub label_at : List ListStyle → ListStyle → List ParHead → ℕ → Label

@@ -1,4 +1,5 @@
 pub mod Heads
+pub mod Cut
 pub mod Numbers
 pub mod Labels
 pub mod Gathered

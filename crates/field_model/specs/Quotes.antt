@@ -1,12 +1,9 @@
 -- Quotes: the characters of a text, a space for each tab and break and between paragraphs, and the texts of its sequence and variable fields. All else is left out, a note with its paragraphs too.
-use Rattle.std.specs.Prelude.{ℕ, Bool, if◌then◌else◌, List, [], ◌∷◌, ◌++◌, map, length, take}
+use Rattle.std.specs.Prelude.{ℕ, Bool, if◌then◌else◌, List, [], ◌∷◌, ◌++◌, map}
+use Rattle.field_model.specs.Cut.{cut}
 use Rattle.field_model.specs.declared.gathered.Piece.{Piece}
 use Rattle.field_model.specs.declared.gathered.Piece.TheVariants.{Gap, Char, Number, Variable}
 use Rattle.field_model.specs.Gathered.{Event, Head, Letter, Counted, Assigned, Asked, Cited, Marked, Other, in_note, is_in_note, spot, same_text}
-
--- the beginning of a text that is shown: it is cut after its 512th character
-abbrev pub cut : List ℕ → List ℕ
-cut text = take 512 text
 
 -- pieces, and behind them further ones of the text that something stands in
 abbrev pub pieces_and : Bool → Bool → List Piece → List Piece → List Piece

@@ -35,8 +35,9 @@ use Rattle.field_model.specs.declared.gathered.ParPlace.{ParPlace}
 use Rattle.field_model.specs.declared.gathered.Shown.{Shown}
 use Rattle.field_model.specs.Gathered.{Event, is_before, is_up_to, same_text, spot_of}
 use Rattle.field_model.specs.Fields.{counted, assigned, marks, sequence_targets, note_targets, paragraphs, is_named, same_class, place_of}
-use Rattle.field_model.specs.Quotes.{cut, pieces}
+use Rattle.field_model.specs.Quotes.{pieces}
 use Rattle.field_model.specs.Numbers.{shown_number}
+use Rattle.field_model.specs.Cut.{cut}
 
 -- the number of a sequence field: how many of the name are read up to it
 abbrev pub sequence_number : List Event → List ℕ → Spot → ℕ

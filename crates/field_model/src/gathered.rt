@@ -20,7 +20,10 @@ pub struct Shown {
     pub text: Txt,
 }
 
-/// Where something stands in reading order. Places count the heads and items of all gathered paragraphs, from 0.
+/// Where something stands in reading order. The paragraphs of a note are read where its item is met, so that what the
+/// reader meets there comes before the rest of the item's paragraph; hence two places: what is read at an earlier anchor
+/// comes first, and at one anchor what was gathered first. Places count the heads and items of all gathered paragraphs,
+/// from 0.
 #[derive(Debug, Clone, Copy, PartialEq, Eq)]
 pub struct Spot {
     /// The place in the body where it is read: its own, or that of the item of its note.

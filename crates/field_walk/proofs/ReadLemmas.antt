@@ -1,11 +1,12 @@
 -- What a walk holds when one thing more is gathered.
+use Rattle.field_model.specs.Cut.{cut}
 use Rattle.std.proofs.Common.{◌≡◌, ℕ, ◌+◌, Bool, true, false, List, [], ◌∷◌, ◌++◌, map, refl, ap, sym, ◌∙◌, arith}
 use Rattle.std.specs.Prelude.{◌&&◌, ◌-◌, Option, Some, None, nat_eq, if◌then◌else◌, length}
 use Rattle.std.specs.Str.{bytes_eq}
 use Rattle.field_model.specs.declared.gathered.Piece.{Piece}
 use Rattle.field_model.specs.declared.gathered.Piece.TheVariants.{Gap, Char, Number, Variable}
 use Rattle.field_model.specs.Gathered.{Event, Head, Letter, Counted, Assigned, Asked, Cited, Marked, Other, in_note, note_place, note_places, spot, same_text}
-use Rattle.field_model.specs.Quotes.{pieces_and, pieces, cut}
+use Rattle.field_model.specs.Quotes.{pieces, pieces_and}
 use Rattle.std.proofs.lemmas.List.{length-append}
 use Rattle.indexmap.specs.IndexMap.{IndexMap, get}
 use Rattle.doc_model.specs.declared.paragraph.ParHead.{ParHead}

@@ -18,7 +18,7 @@ use Rattle.field_model.specs.declared.gathered.ParPlace.{ParPlace}
 use Rattle.field_model.specs.declared.gathered.Shown.{Shown}
 use Rattle.field_model.specs.Gathered.{Event}
 use Rattle.field_model.specs.Shown.{shown_behind, shown_item, citation, cited_before, cited_in}
-use Rattle.field_model.specs.Quotes.{cut}
+use Rattle.field_model.specs.Cut.{cut}
 
 pub shown_append : (all : List Event) (table : PageTable) (par : ParPlace) (front one two : List Item) → shown_behind all table par front (one ++ two) ≡ shown_behind all table par front one ++ shown_behind all table par (front ++ one) two
 shown_append all table par front [] two = ap (λ (seen : List Item). shown_behind all table par seen two) (sym (append-nil front))

@@ -9,7 +9,7 @@ use Rattle.field_model.specs.declared.gathered.Spot.{Spot}
 use Rattle.field_model.specs.Gathered.{is_before}
 use Rattle.std.proofs.lemmas.Grind.{flat_map-append}
 use Rattle.std.proofs.lemmas.List.{drop_all, take-append-drop}
-use Rattle.number_text.specs.Cut.{cut, kept_characters}
+use Rattle.field_model.specs.Cut.{cut, kept_characters}
 use Rattle.number_text.proofs.CutLemmas.{cut_then, cut_rest}
 use Rattle.field_model.specs.declared.gathered.Piece.{Piece}
 use Rattle.field_model.specs.declared.gathered.Piece.TheVariants.{Gap, Char, Number, Variable}

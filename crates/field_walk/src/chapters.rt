@@ -4,7 +4,7 @@ ghost use Rattle.field_model.specs.Gathered.{Event};
 ghost use Rattle.field_model.specs.Shown.{chapter_text, heading, joined, par_quote, nearest};
 ghost use Rattle.field_walk.specs.Holds.{HoldsEvents};
 ghost use Rattle.field_walk.specs.Chapters.{chapters_behind};
-ghost use Rattle.number_text.specs.Cut.{cut};
+ghost use Rattle.field_model.specs.Cut.{cut};
 
 use crate::texts::{push_nothing, push_text};
 use crate::walk::Walk;

@@ -10,8 +10,6 @@ mod refs;
 mod runs;
 mod show;
 mod spots;
-#[cfg(test)]
-mod tests;
 mod texts;
 mod walk;
 

@@ -1,7 +1,7 @@
 //! Page numbers, by a page table.
 ghost use Rattle.std.specs.Prelude.{◌≡◌, ◌++◌, OnOk};
 ghost use Rattle.field_model.specs.Shown.{page_of, page_at, page_text, page_number_text, page_count_text, select_pages};
-ghost use Rattle.number_text.specs.Cut.{cut};
+ghost use Rattle.field_model.specs.Cut.{cut};
 
 use crate::texts::push_nothing;
 use doc_model::{Format, PageAdjust, PageTable, ParId, Select};

@@ -2,7 +2,7 @@
 ghost use Rattle.std.specs.Prelude.{◌≡◌, List, OnOk, option_copied, ◌++◌};
 ghost use Rattle.field_model.specs.Gathered.{Event};
 ghost use Rattle.field_walk.specs.Holds.{HoldsEvents};
-ghost use Rattle.number_text.specs.Cut.{cut};
+ghost use Rattle.field_model.specs.Cut.{cut};
 ghost use Rattle.std.specs.Prelude.{IfOk, chars, string_bytes};
 ghost use Rattle.field_walk.specs.Gaps.{is_gap};
 ghost use Rattle.field_model.specs.Shown.{piece_text, quote, up_to_gap, quote_from, quote_between, par_quote};

@@ -5,7 +5,7 @@ ghost use Rattle.field_model.specs.Fields.{target, cited, par_place};
 ghost use Rattle.field_walk.specs.Steps.{cited_now, places_behind};
 ghost use Rattle.doc_model.specs.declared.field.NoteClass.TheVariants.{Footnote, Endnote};
 ghost use Rattle.std.specs.Prelude.{IfOk, [], if◌then◌else◌};
-ghost use Rattle.field_model.specs.Quotes.{pieces_and, cut};
+ghost use Rattle.field_model.specs.Quotes.{pieces_and};
 ghost use Rattle.field_model.specs.declared.gathered.Piece.TheVariants.{Char};
 ghost use Rattle.doc_model.specs.Parts.{mark_name};
 ghost use Rattle.field_walk.specs.Holds.{HoldsEvents};

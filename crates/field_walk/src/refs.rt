@@ -5,7 +5,7 @@ ghost use Rattle.field_model.specs.Fields.{marks, sequence_targets, note_targets
 ghost use Rattle.field_model.specs.Shown.{page_form, chapter_form, direction_form, par_start, bookmark_text, marked_text, sequence_text, note_text, note_number_text, first_of, last_of, own_page, missing};
 ghost use Rattle.std.specs.Prelude.{Some};
 ghost use Rattle.field_walk.specs.Holds.{HoldsEvents};
-ghost use Rattle.number_text.specs.Cut.{cut};
+ghost use Rattle.field_model.specs.Cut.{cut};
 
 use crate::pages::{page_of, push_page};
 use crate::spots::{is_before, one_more};

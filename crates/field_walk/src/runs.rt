@@ -1,6 +1,7 @@
 //! What can be quoted: the pieces of the body, and those of all notes.
 ghost use Rattle.std.specs.Prelude.{◌≡◌, [], ◌∷◌, ◌++◌, Bool, drop, take, map, chars, OnOk};
-ghost use Rattle.field_model.specs.Quotes.{pieces_and, cut};
+ghost use Rattle.field_model.specs.Cut.{cut};
+ghost use Rattle.field_model.specs.Quotes.{pieces_and};
 ghost use Rattle.field_model.specs.declared.gathered.Piece.TheVariants.{Char};
 ghost use Rattle.field_walk.specs.Lists.{run_in};
 

@@ -6,7 +6,7 @@ ghost use Rattle.field_model.specs.Shown.{field_text, shown_in, shown_item, show
 ghost use Rattle.field_walk.specs.Holds.{HoldsEvents};
 ghost use Rattle.field_walk.specs.Seen.{HasSeen};
 ghost use Rattle.field_model.specs.declared.gathered.ParPlace.{ParPlace};
-ghost use Rattle.number_text.specs.Cut.{cut};
+ghost use Rattle.field_model.specs.Cut.{cut};
 
 use crate::pages::{page_of, push_page_count, push_page_number};
 use crate::refs::push_note_number;

@@ -2,7 +2,7 @@
 ghost use Rattle.std.specs.Prelude.{◌≡◌, List, OnOk, option_copied, ◌++◌};
 ghost use Rattle.field_model.specs.Gathered.{Event};
 ghost use Rattle.field_walk.specs.Holds.{HoldsEvents};
-ghost use Rattle.number_text.specs.Cut.{cut};
+ghost use Rattle.field_model.specs.Cut.{cut};
 ghost use Rattle.std.specs.Prelude.{IfOk, [], ◌+◌, count_by, filter};
 ghost use Rattle.field_model.specs.Gathered.{is_up_to, is_before};
 ghost use Rattle.field_model.specs.Numbers.{shown_number};

@@ -5,7 +5,7 @@ use Rattle.std.proofs.Math.Seq.{take-append-add}
 use Rattle.std.proofs.lemmas.List.{take_all, take-append-le, length-take}
 use Rattle.std.proofs.lemmas.Str.{chars-append, chars_from_encodes, IsUtf8-encode}
 use Rattle.std.specs.Char.{IsScalar}
-use Rattle.number_text.specs.Cut.{cut, kept_characters}
+use Rattle.field_model.specs.Cut.{cut, kept_characters}
 
 take_take : (n : ℕ) (front back : List ℕ) → take n (take n front ++ back) ≡ take n (front ++ back)
 take_take zero front back = refl

@@ -1,7 +1,7 @@
 //! Texts that keep their first 512 characters, as labels and the texts of fields do.
 
 ghost use Rattle.std.specs.Prelude.{◌≡◌, ◌≤◌, [], ◌∷◌, ◌++◌, length, chars, OnOk, OnErr, IsTrue, ◌↔◌};
-ghost use Rattle.number_text.specs.Cut.{cut, kept_characters};
+ghost use Rattle.field_model.specs.Cut.{cut, kept_characters};
 
 use doc_model::Txt;
 use std::alloc::{AllocError, Global};
@@ -19,7 +19,7 @@ pub struct CutText {
 
 impl Model for CutText {
     ghost use Rattle.std.specs.Prelude.{List, ℕ, ◌≡◌, ◌+◌, length, chars, string_bytes};
-    ghost use Rattle.number_text.specs.Cut.{kept_characters};
+    ghost use Rattle.field_model.specs.Cut.{kept_characters};
 
     ghost Value = { List ℕ };
 

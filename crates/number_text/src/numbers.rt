@@ -2,7 +2,7 @@
 
 ghost use Rattle.std.specs.Prelude.{◌≡◌, ◌<◌, ◌≤◌, ◌+◌, [], ◌++◌, codes, replicate, reverse, OnOk};
 ghost use Rattle.field_model.specs.Numbers.{shown_number, letters, word_of, roman, roman_digit, roman_or_digits};
-ghost use Rattle.number_text.specs.Cut.{cut};
+ghost use Rattle.field_model.specs.Cut.{cut};
 
 use crate::cut::CutText;
 use doc_model::Format;

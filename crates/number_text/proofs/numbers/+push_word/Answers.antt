@@ -1,6 +1,6 @@
 use Rattle.std.proofs.Common.{ℕ, ◌-◌, ◌/◌, [], ◌∷◌, ◌++◌, reverse, ap, sym, ◌∙◌, arith, rules}
 use Rattle.field_model.specs.Numbers.{word_of}
-use Rattle.number_text.specs.Cut.{cut}
+use Rattle.field_model.specs.Cut.{cut}
 use Rattle.number_text.proofs.CutLemmas.{cut_none, cut_full, cut_last}
 use Rattle.number_text.proofs.Words.{word_of-letter}
 use Rattle.number_text.proofs.numbers.+push_word.Goals as goal

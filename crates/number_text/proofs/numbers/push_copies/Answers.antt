@@ -1,6 +1,6 @@
 use Rattle.std.proofs.Common.{ℕ, List, [], ◌∷◌, ◌++◌, replicate, ap, ◌∙◌, rules}
 use Rattle.std.proofs.lemmas.List.{replicate-append-replicate}
-use Rattle.number_text.specs.Cut.{cut}
+use Rattle.field_model.specs.Cut.{cut}
 use Rattle.number_text.proofs.CutLemmas.{cut_none, cut_full, cut_then}
 use Rattle.number_text.proofs.numbers.push_copies.Goals as goal
 

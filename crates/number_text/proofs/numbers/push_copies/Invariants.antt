@@ -1,5 +1,5 @@
 use Rattle.std.proofs.Common.{◌≡◌, ◌++◌, replicate}
-use Rattle.number_text.specs.Cut.{cut}
+use Rattle.field_model.specs.Cut.{cut}
 use Rattle.number_text.proofs.numbers.push_copies.Given as goal
 
 abbrev pub invariant-loop : goal.invariant-loop

@@ -3,7 +3,7 @@ use Rattle.std.proofs.lemmas.Iterator.{YieldsList-from_chars, YieldsList-from_ta
 use Rattle.std.proofs.lemmas.Iterator.Consumers.{YieldsList-end}
 use Rattle.std.proofs.lemmas.List.{map-id}
 use Rattle.field_model.specs.declared.gathered.Piece.TheVariants.{Char}
-use Rattle.field_model.specs.Quotes.{pieces_and, cut}
+use Rattle.field_model.specs.Quotes.{pieces_and}
 use Rattle.field_walk.specs.Lists.{run_in}
 use Rattle.field_walk.proofs.PieceLemmas.{none_added, letter_added}
 use Rattle.field_walk.proofs.runs.Runs.push_letters.Goals as goal

@@ -1,5 +1,5 @@
 use Rattle.std.proofs.Common.{◌≡◌, ℕ, List, [], ◌∷◌, ◌++◌, rules, ap, sym, ◌∙◌, append_assoc}
-use Rattle.number_text.specs.Cut.{cut}
+use Rattle.field_model.specs.Cut.{cut}
 use Rattle.number_text.proofs.CutLemmas.{cut_then}
 use Rattle.field_model.specs.Shown.{par_quote, joined}
 use Rattle.field_walk.proofs.TextLemmas.{joined_some}

@@ -1,5 +1,5 @@
 use Rattle.std.proofs.Common.{◌≡◌, ℕ, List, length, rules, arith, ap, sym, ◌∙◌, ◌++◌, refl, ◌+◌}
-use Rattle.number_text.specs.Cut.{kept_characters}
+use Rattle.field_model.specs.Cut.{kept_characters}
 use Rattle.number_text.proofs.CutLemmas.{cut_none, cut_full}
 use Rattle.field_model.specs.Shown.{quote, up_to_gap}
 use Rattle.field_walk.proofs.TextLemmas.{quote_pushed, gap_full, gap_more}

@@ -1,6 +1,6 @@
 use Rattle.std.proofs.Common.{◌≡◌, ◌++◌, ℕ, List, chars, ap, sym, ◌∙◌}
 use Rattle.std.specs.Prelude.{string_bytes}
-use Rattle.number_text.specs.Cut.{cut}
+use Rattle.field_model.specs.Cut.{cut}
 use Rattle.field_model.specs.Shown.{piece_text}
 use Rattle.field_walk.proofs.TextLemmas.{piece_kept}
 use Rattle.field_walk.proofs.walk.Walk.push_whole.Goals as goal

@@ -2,7 +2,7 @@ use Rattle.std.proofs.Common.{◌≡◌, ℕ, List, [], ◌++◌, ◌∷◌, len
 use Rattle.std.proofs.lemmas.Iterator.{YieldsList-from_chars, YieldsList-from_take}
 use Rattle.std.proofs.lemmas.Iterator.Consumers.{YieldsList-end}
 use Rattle.std.proofs.lemmas.List.{map-id}
-use Rattle.number_text.specs.Cut.{cut}
+use Rattle.field_model.specs.Cut.{cut}
 use Rattle.number_text.proofs.CutLemmas.{cut_none, cut_then, cut_room}
 use Rattle.number_text.proofs.cut.CutText.push_str.Goals as goal
 

@@ -1,5 +1,5 @@
 use Rattle.std.proofs.Common.{◌≡◌, ◌++◌}
-use Rattle.number_text.specs.Cut.{cut}
+use Rattle.field_model.specs.Cut.{cut}
 use Rattle.number_text.proofs.cut.CutText.push_str.Given as goal
 
 abbrev pub invariant-loop-letter : goal.invariant-loop-letter
