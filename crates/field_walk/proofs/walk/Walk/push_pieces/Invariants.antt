@@ -1,0 +1,10 @@
+use Rattle.std.proofs.Common.{◌≡◌, ◌++◌, List, take, drop, chars}
+use Rattle.std.specs.Prelude.{string_bytes}
+use Rattle.field_model.specs.Cut.{cut}
+use Rattle.field_model.specs.Gathered.{Event}
+use Rattle.field_model.specs.Shown.{quote, up_to_gap}
+use Rattle.field_walk.specs.Holds.{HoldsEvents}
+use Rattle.field_walk.proofs.walk.Walk.push_pieces.Given as goal
+
+abbrev pub invariant-loop-piece : goal.invariant-loop-piece
+invariant-loop-piece l = (all : List Event) → HoldsEvents l.self all → l.out ≡ cut (l.initial.out ++ quote all (take l.piece-index l.pieces))
