@@ -11,7 +11,7 @@ use Rattle.doc_model.specs.declared.paragraph.What.{What}
 use Rattle.doc_model.specs.declared.paragraph.What.TheOpen.{What-F}
 use Rattle.doc_model.specs.declared.paragraph.Note.{Note}
 use Rattle.doc_model.specs.Parts.{what_of}
-use Rattle.key_parts.specs.declared.parts.Shown.{Shown}
+use Rattle.field_model.specs.declared.gathered.Shown.{Shown}
 use Rattle.key_parts.specs.declared.parts.SpanDisplay.{SpanDisplay}
 use Rattle.key_parts.proofs.Fronts.{front, rest}
 use Rattle.key_parts.specs.Shows.{Piece, pieces, piece_of, text_of, citations, texts_behind, texts_left, takes_text, IsShort, characters, next_text, is_shown_in}

@@ -5,7 +5,7 @@ use Rattle.std.specs.List.{AllByRecursion as Each}
 use Rattle.std.proofs.lemmas.Grind.{flat_map-append}
 use Rattle.std.proofs.lemmas.List.{length-append}
 use Rattle.doc_model.specs.declared.paragraph.Item.{Item}
-use Rattle.key_parts.specs.declared.parts.Shown.{Shown}
+use Rattle.field_model.specs.declared.gathered.Shown.{Shown}
 use Rattle.key_parts.specs.declared.parts.SpanDisplay.{SpanDisplay}
 use Rattle.key_parts.specs.Shows.{Piece, pieces, text_of, citations, texts_left, IsShort}
 use Rattle.key_parts.specs.KeyFrom.{with_space, front_of}

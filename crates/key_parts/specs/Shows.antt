@@ -9,7 +9,7 @@ use Rattle.doc_model.specs.declared.paragraph.What.TheOpen.{What-F}
 use Rattle.doc_model.specs.declared.paragraph.Note.{Note}
 use Rattle.doc_model.specs.Parts.{what_of}
 use Rattle.style_model.specs.Effective.{first_stated}
-use Rattle.key_parts.specs.declared.parts.Shown.{Shown}
+use Rattle.field_model.specs.declared.gathered.Shown.{Shown}
 use Rattle.key_parts.specs.declared.parts.SpanDisplay.{SpanDisplay}
 
 -- whether a text style states that it is shown, where it states that

@@ -6,9 +6,10 @@ mod laws;
 mod parts;
 mod shown;
 
+pub use field_model::Shown;
 pub use keys::key_of;
 pub use laws::displays_say_what_styles_state;
-pub use parts::{KeyParts, Shown, SpanDisplay};
+pub use parts::{KeyParts, SpanDisplay};
 
 #[cfg(test)]
 mod tests;

@@ -1,15 +1,7 @@
 //! What the key of a paragraph is made of.
 
 use doc_model::{Item, ListPos, Name, Props, Txt};
-
-/// What a field or a note item shows: the text of the field, or the citation of the note.
-#[derive(Debug, Drop, PartialEq, Eq)]
-pub struct Shown {
-    /// The place of the item among those of its paragraph, from 0.
-    pub item: u32,
-    /// What it shows, at most 512 characters.
-    pub text: Txt,
-}
+use field_model::Shown;
 
 /// A text style that states, itself or by its ancestors, whether what it stands round is shown ('text:display').
 #[derive(Debug, Drop, PartialEq, Eq)]

@@ -5,8 +5,9 @@ ghost use Rattle.std.specs.List.{AllByRecursion as Each};
 ghost use Rattle.doc_model.specs.declared.paragraph.Item.{out-Item};
 ghost use Rattle.key_parts.specs.Shows.{stated_display, is_shown_in, takes_text, is_note, next_text, texts_behind, texts_left, IsShort, characters, piece_of, pieces, text_of, citations};
 
-use crate::parts::{Shown, SpanDisplay};
+use crate::parts::SpanDisplay;
 use doc_model::{Item, Name, Txt, What};
+use field_model::Shown;
 use std::alloc::AllocError;
 
 /// The text of a key that is being built, and the places of the citations in it.

@@ -1,6 +1,6 @@
 use Rattle.std.proofs.Common.{◌∙◌, ◌++◌, length, ap, sym, subst, List, Bool, ℕ}
 use Rattle.std.specs.List.{AllByRecursion as Each}
-use Rattle.key_parts.specs.declared.parts.Shown.{Shown}
+use Rattle.field_model.specs.declared.gathered.Shown.{Shown}
 use Rattle.key_parts.specs.Shows.{IsShort, pieces, text_of, citations}
 use Rattle.std.specs.Prelude.{string_bytes}
 use Rattle.key_parts.specs.KeyFrom.{front_of}
