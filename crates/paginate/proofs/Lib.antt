@@ -1,0 +1,5 @@
+mod CloseLemmas
+mod EndLemmas
+mod PageLemmas
+mod PlanLemmas
+mod RowLemmas
