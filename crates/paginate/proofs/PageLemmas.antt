@@ -114,7 +114,7 @@ not_over : (left : Left) (rows : List Row) → 0 < length rows → is_over left 
 not_over left [] h = absurd (omega arith)
 not_over left (row ∷ rows) h = let e : (length (row ∷ rows) == 0) ≡ false = grind (arith, nat_tests) in rw e refl
 
-at_most-step : (n : ℕ) (frames : Frames) (left : Left) (rows : List Row) (b : Bool) → is_over (left_by frames left rows) (rows_behind frames left rows) ≡ b
+pub at_most-step : (n : ℕ) (frames : Frames) (left : Left) (rows : List Row) (b : Bool) → is_over (left_by frames left rows) (rows_behind frames left rows) ≡ b
     → at_most (suc n) frames left rows ≡ page_of frames left rows ∷ (if b then [] else at_most n frames (left_by frames left rows) (rows_behind frames left rows))
 at_most-step n frames left rows b e = rw e refl
 
@@ -131,16 +131,16 @@ at_most-more n frames left rows more h =
     ∙ ap₂ (λ (l : Left) (r : List Row). page_of frames left rows ∷ at_most n frames l r) s.leaves s.behind
 
 -- the lists of closed pages and headings with one more page
-closed_behind-snoc : (frames : Frames) (heads : List (Option HeadText)) (pages : List Broken) (page : Broken)
+pub closed_behind-snoc : (frames : Frames) (heads : List (Option HeadText)) (pages : List Broken) (page : Broken)
     → closed_behind frames heads (pages ++ page ∷ []) ≡ closed_behind frames heads pages ++ closed_of frames (heads_after heads pages) page ∷ []
 closed_behind-snoc frames heads [] page = refl
 closed_behind-snoc frames heads (first ∷ pages) page = ap (λ (l : List Closed). closed_of frames heads first ∷ l) (closed_behind-snoc frames (heads_behind heads first.rows) pages page)
 
-heads_after-snoc : (heads : List (Option HeadText)) (pages : List Broken) (page : Broken) → heads_after heads (pages ++ page ∷ []) ≡ heads_behind (heads_after heads pages) page.rows
+pub heads_after-snoc : (heads : List (Option HeadText)) (pages : List Broken) (page : Broken) → heads_after heads (pages ++ page ∷ []) ≡ heads_behind (heads_after heads pages) page.rows
 heads_after-snoc heads [] page = refl
 heads_after-snoc heads (first ∷ pages) page = heads_after-snoc (heads_behind heads first.rows) pages page
 
-length-snoc : (pages : List Broken) (page : Broken) → length (pages ++ page ∷ []) ≡ length pages + 1
+pub length-snoc : (pages : List Broken) (page : Broken) → length (pages ++ page ∷ []) ≡ length pages + 1
 length-snoc pages page = omega (arith, length-append pages (page ∷ []))
 
 -- what is left for pages gets less with each page, unless nothing was left
@@ -149,7 +149,7 @@ notes_of-split zero rows = omega arith
 notes_of-split (suc n) [] = omega arith
 notes_of-split (suc n) (row ∷ rows) = omega (arith, notes_of-split n rows, length-notes_of (take n rows) row, length-notes_of rows row)
 
-size-less : (frames : Frames) (left : Left) (rows : List Row) → 0 < length rows → size_of (left_by frames left rows) (rows_behind frames left rows) + 1 ≤ size_of left rows
+pub size-less : (frames : Frames) (left : Left) (rows : List Row) → 0 < length rows → size_of (left_by frames left rows) (rows_behind frames left rows) + 1 ≤ size_of left rows
 size-less frames left rows h =
     let count = count_for frames left rows in
     let some = page_end-some (room_for frames left rows) left.carried rows h in

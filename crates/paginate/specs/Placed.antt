@@ -1,10 +1,12 @@
 -- What a plan holds for the paragraphs that were placed.
-use Rattle.std.specs.Prelude.{◌≡◌, ℕ, ◌+◌, ◌-◌, ◌<◌, ◌^◌, false, List, ◌++◌, drop, length}
+use Rattle.std.specs.Prelude.{◌≡◌, ℕ, ◌+◌, ◌-◌, ◌<◌, ◌^◌, true, false, List, ◌++◌, map, drop, length}
 use Rattle.doc_model.specs.declared.page_layout.Master.{Master}
 use Rattle.doc_model.specs.declared.page_layout.PageLayout.{PageLayout}
 use Rattle.doc_model.specs.declared.paragraph.ParId.{ParId}
 use Rattle.page_model.specs.declared.placed.ParRows.{ParRows}
+use Rattle.page_model.specs.declared.body.PageBody.{PageBody}
 use Rattle.page_model.specs.declared.row.Row.{Row}
+use Rattle.page_model.specs.Bodies.{bodies_of}
 use Rattle.page_model.specs.Frames.{frames_of}
 use Rattle.page_model.specs.BodyRows.{body_rows, set_pars}
 use Rattle.page_model.specs.Breaking.{notes_of}
@@ -47,3 +49,18 @@ pub record Adds (set : List ParId) (rows : List Row) (old new : Plan) : Type 0 w
   pub more_pending : pending new ≡ pending old ++ rows
   pub same_breaker : new.breaker ≡ old.breaker
   pub same_finished : new.finished ≡ old.finished
+
+-- the bodies of the pages that are closed
+abbrev pub bodies : Plan → List PageBody
+bodies plan = map (λ closed. closed.body) (plan.breaker.pages.items ++ plan.last.items)
+
+-- there are fewer pages than 2^32
+abbrev pub IsShort : Plan → Type 0
+IsShort plan = length (bodies plan) < 2 ^ 32
+
+-- the plan is finished, and has the pages of these paragraphs
+pub record IsFinished (masters : List Master) (layouts : List PageLayout) (pars : List ParRows) (plan : Plan) : Type 0 where
+  pub finished : plan.finished ≡ true
+  pub has_masters : plan.masters ≡ masters
+  pub short : IsShort plan
+  pub has_bodies : bodies plan ≡ bodies_of masters layouts pars

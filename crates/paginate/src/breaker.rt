@@ -39,7 +39,7 @@ pub struct Breaker {
 
 impl Breaker {
     ghost use Rattle.std.specs.Prelude.{◌≡◌, ℕ, ◌+◌, ◌<◌, ◌^◌, [], max, IfOk, OnErr, length, IsTrue, ◌↔◌};
-    ghost use Rattle.page_model.specs.Pages.{nothing_left, room_for};
+    ghost use Rattle.page_model.specs.Pages.{count_for, is_over, left_by, nothing_left, room_for};
     ghost use Rattle.paginate.specs.Heads.{no_heads as blank_heads};
     ghost use Rattle.paginate.specs.Standing.{carried_by, left_of, Closes, StandsAs};
 
@@ -75,6 +75,21 @@ impl Breaker {
         })
     }
 
+    /// The pages.
+    pub fn into_pages(self) -> Vec<Closed>
+        ensures { result.items ≡ self.pages.items }
+    {
+        let Breaker {
+            master: _,
+            number: _,
+            queue: _,
+            shown: _,
+            heads: _,
+            pages,
+        } = self;
+        pages
+    }
+
     /// The note rows that are carried.
     pub fn carried(&self) -> &[NoteRow]
         ensures { result.now ≡ carried_by self.now }
@@ -89,6 +104,13 @@ impl Breaker {
         (room_for(frames, self.master, rows) as usize).max(1) < rows.len()
     }
 
+    /// Whether neither a row nor a carried note row is left.
+    pub fn is_over(&self, rows: &[Row]) -> bool
+        ensures { result ≡ is_over (left_of self.now) rows.now }
+    {
+        rows.is_empty() && self.carried().is_empty()
+    }
+
     /// Closes the page that begins with the first of some rows, and tells how many of them it has.
     pub fn close(
         &mut self,
@@ -97,6 +119,8 @@ impl Breaker {
         rows: &[Row],
     ) -> Result<usize, AllocError>
         ensures ok { IfOk result (λ count. self.old.number + 1 < 2 ^ 32 → Closes frames.now rows.now self.old self.new count) }
+        ensures counted { IfOk result (λ count. count ≡ count_for frames.now (left_of self.old) rows.now) }
+        ensures carried { IfOk result (λ count. carried_by self.new ≡ (left_by frames.now (left_of self.old) rows.now).carried) }
         ensures within { IfOk result (λ count. count ≤ length rows.now) }
         ensures some { IfOk result (λ count. 0 < length rows.now → 1 ≤ count) }
         ensures err { OnErr result (StandsAs self.old self.new) }

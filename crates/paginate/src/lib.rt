@@ -5,6 +5,7 @@ mod breaker;
 mod closing;
 mod contents;
 mod ends;
+mod finish;
 mod frame;
 mod frames;
 mod heads;
@@ -13,6 +14,7 @@ mod notes;
 mod plan;
 mod rows;
 mod sets;
+mod table;
 mod turn;
 
 pub use plan::Plan;

@@ -1,13 +1,16 @@
 //! The plan of the pages of a document.
 
 ghost use Rattle.std.specs.Prelude.{◌≤◌, vec_len};
+ghost use Rattle.paginate.specs.Roomy.{IsRoomy};
 
 use crate::breaker::{Breaker, Closed};
+use crate::finish::close_all;
 use crate::frames::frames;
 use crate::rows::rows_of_par;
 use crate::sets::set_of_par;
-use doc_model::{List, Master, PageLayout, ParId};
-use page_model::{Frames, ParRows, Row};
+use crate::table::page_table;
+use doc_model::{List, Master, PageLayout, PageTable, ParId};
+use page_model::{Frames, PageBody, ParRows, Row};
 use std::alloc::{AllocError, Global};
 
 /// The pages of paragraphs, which are placed one after another.
@@ -29,15 +32,17 @@ pub struct Plan {
     last: Vec<Closed>,
     finished: bool,
     ghost within: { from ≤ vec_len rows },
+    ghost roomy: { IsRoomy frames },
 }
 
 impl Plan {
-    ghost use Rattle.std.specs.Prelude.{◌≡◌, ℕ, ◌+◌, ◌-◌, ◌<◌, ◌^◌, List, [], ◌∷◌, ◌++◌, IfOk, OnOk, OnErr, length, true, false};
+    ghost use Rattle.std.specs.Prelude.{◌≡◌, ℕ, ◌+◌, ◌-◌, ◌<◌, ◌^◌, List, [], ◌∷◌, ◌++◌, IfOk, OnOk, OnErr, Some, length, slice_get, true, false};
     ghost use Rattle.doc_model.specs.declared.page_layout.Master.{Master};
     ghost use Rattle.doc_model.specs.declared.page_layout.PageLayout.{PageLayout};
     ghost use Rattle.page_model.specs.declared.placed.ParRows.{ParRows};
     ghost use Rattle.style_model.specs.Masters.{AreMastersThere};
-    ghost use Rattle.paginate.specs.Placed.{pending, row_count, HasPlaced, HoldsSame, Adds};
+    ghost use Rattle.paginate.specs.Placed.{pending, row_count, bodies, HasPlaced, HoldsSame, Adds, IsFinished, IsShort};
+    ghost use Rattle.page_model.specs.Table.{table_of};
 
     /// A plan on which nothing is placed.
     pub fn new(
@@ -117,6 +122,46 @@ impl Plan {
                 self.set.truncate(before);
                 Err(fault)
             }
+        }
+    }
+
+    /// Closes the pages that are left, and gives the page table of all. Nothing may be placed afterwards.
+    ///
+    /// The pages are the greatest that fit: each ends at the last place where it may end at the least level that has one, and not
+    /// past a place where it must end. A document without rows has one page.
+    pub fn finish(&mut self, alloc: Global) -> Result<PageTable, AllocError>
+        ensures ok { (masters : List Master) (layouts : List PageLayout) (pars : List ParRows) → HasPlaced masters layouts pars self.old → IfOk result (λ table. (table ≡ table_of masters layouts pars) × IsFinished masters layouts pars self.new) }
+        ensures err { (masters : List Master) (layouts : List PageLayout) (pars : List ParRows) → HasPlaced masters layouts pars self.old → OnErr result (HasPlaced masters layouts pars self.new) }
+    {
+        let mut breaker = self.breaker.branch(alloc)?;
+        close_all(alloc, &self.frames, &mut breaker, &self.rows[self.from..])?;
+        let set = self.set.as_slice();
+        let table = page_table(alloc, set, &self.breaker.pages, &breaker.pages)?;
+        self.last = breaker.into_pages();
+        self.finished = true;
+        Ok(table)
+    }
+
+    /// How many pages there are, once the plan is finished.
+    pub fn count(&self) -> u32
+        requires { IsShort self.now }
+        ensures { result ≡ length (bodies self.now) }
+    {
+        (self.breaker.pages.len() + self.last.len()) as u32
+    }
+
+    /// The body of a page by its index, from 1, once the plan is finished.
+    pub fn body(&self, n: u32) -> &PageBody
+        requires there { 1 ≤ n }
+        requires within { n ≤ length (bodies self.now) }
+        ensures { slice_get (bodies self.now) (n - 1) ≡ Some result.now }
+    {
+        let place = n as usize - 1;
+        let closed = self.breaker.pages.len();
+        if place < closed {
+            &self.breaker.pages[place].body
+        } else {
+            &self.last[place - closed].body
         }
     }
 
