@@ -117,16 +117,14 @@ rows_of_lines masters place par before (text ∷ more) = row_of masters place pa
 abbrev pub rows_of_par : List Master → ℕ → ParRows → List Row
 rows_of_par masters place par = rows_of_lines masters place par 0 par.lines
 
+-- the paragraphs of footnotes, one after another
+abbrev pub ids_of_notes : List NoteRows → List ParId
+ids_of_notes [] = []
+ids_of_notes (note ∷ notes) = map (λ note_par. note_par.par) note.pars ++ ids_of_notes notes
+
 -- the paragraphs of a placed one in the order in which they are set: those of its footnotes and then itself
 abbrev pub set_of_par : ParRows → List ParId
-set_of_par par = ids_of_notes par.notes ++ par.par ∷ [] where
-  ids_of_pars : List NotePar → List ParId
-  ids_of_pars [] = []
-  ids_of_pars (note_par ∷ pars) = note_par.par ∷ ids_of_pars pars
-
-  ids_of_notes : List NoteRows → List ParId
-  ids_of_notes [] = []
-  ids_of_notes (note ∷ notes) = ids_of_pars note.pars ++ ids_of_notes notes
+set_of_par par = ids_of_notes par.notes ++ par.par ∷ []
 
 -- the paragraphs that are placed, in the order in which they are set
 abbrev pub set_pars : List ParRows → List ParId

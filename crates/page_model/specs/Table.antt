@@ -1,5 +1,5 @@
 -- The page table: each page's number and columns, and for each paragraph the page of its first row, if it has one.
-use Rattle.std.specs.Prelude.{ℕ, ◌+◌, ◌==◌, List, [], ◌∷◌, ◌++◌, map, position, Option, suc}
+use Rattle.std.specs.Prelude.{ℕ, ◌+◌, ◌==◌, List, [], ◌∷◌, ◌++◌, map, if◌then◌else◌, Option, Some, None}
 use Rattle.std.specs.List.{filter_map, list_any}
 use Rattle.std.specs.Option.{option_map, option_map_or}
 use Rattle.doc_model.specs.declared.page_layout.Master.{Master}
@@ -23,15 +23,16 @@ entry_of frames page = record { number = page.number; columns = (frame_at frames
 abbrev pub first_rows : Broken → List ℕ
 first_rows page = filter_map (λ row. option_map (λ first. first.place) row.first) page.rows ++ filter_map (λ row. row.place) page.notes
 
--- the index, from 1, of the page with the first row of the paragraph at a place in the order in which paragraphs are set
-abbrev pub page_with : List Broken → ℕ → Option ℕ
-page_with pages place = option_map suc (position (λ page. list_any (λ first. first == place) (first_rows page)) pages)
+-- the index of the page with the first row of the paragraph at a place in the order in which paragraphs are set, where the first page has the given index
+abbrev pub page_with : ℕ → List Broken → ℕ → Option ℕ
+page_with index [] place = None
+page_with index (page ∷ pages) place = if list_any (λ first. first == place) (first_rows page) then Some index else page_with (index + 1) pages place
 
 -- the paragraphs that have a page, of those of which the first has this place
 abbrev pub pars_from : List Broken → ℕ → List ParId → List ParPage
 pars_from pages place [] = []
 pars_from pages place (par ∷ pars) =
-    option_map_or (λ page. record { par = par; page = page } ∷ []) (page_with pages place) [] ++ pars_from pages (place + 1) pars
+    option_map_or (λ page. record { par = par; page = page } ∷ []) (page_with 1 pages place) [] ++ pars_from pages (place + 1) pars
 
 -- the page table of paragraphs that are placed
 abbrev pub table_of : List Master → List PageLayout → List ParRows → PageTable

@@ -1,0 +1,7 @@
+mod CloseLemmas
+mod EndLemmas
+mod FinishLemmas
+mod PageLemmas
+mod PlanLemmas
+mod RowLemmas
+mod TableLemmas
