@@ -20,6 +20,6 @@ for file in main trees; do
     cp "$here/$file.txt" "$work/crates/calls/src/$file.rt"
 done
 cp "$top/HANDLES" "$work/HANDLES"
-grep -E '^(doc_model|style_model|share_vec|style_tree):' "$top/crates.txt" | sed 's/ tests_may=[A-Za-z+]*//' >"$work/crates.txt"
+grep -E '^(doc_model|style_model|share_vec|style_tree)[ :]' "$top/crates.txt" | sed 's/ tests_may=[A-Za-z+]*//' >"$work/crates.txt"
 printf 'calls: doc_model style_tree\n' >>"$work/crates.txt"
 cd "$work/crates/calls" && rt run
