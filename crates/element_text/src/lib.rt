@@ -10,7 +10,9 @@ mod pieces;
 
 pub use attributes::{Attribute, push_attribute, push_attributes};
 pub use escaped::{push_run, push_value};
-pub use pieces::{push_declaration, push_empty, push_end, push_start};
+pub use pieces::{
+    push_declaration, push_empty, push_empty_end, push_end, push_name, push_start, push_tag_end,
+};
 
 #[cfg(test)]
 mod tests;

@@ -1,6 +1,6 @@
 //! Tags.
 
-ghost use Rattle.std.specs.Prelude.{◌≡◌, ◌++◌, chars, string_bytes, codes, map, OnOk};
+ghost use Rattle.std.specs.Prelude.{◌≡◌, [], ◌++◌, chars, string_bytes, codes, map, OnOk};
 ghost use Rattle.tree_text.specs.Writing.{tag_text, end_text, declaration};
 ghost use Rattle.element_text.specs.Attributes.{attr_of};
 
@@ -12,6 +12,28 @@ pub(crate) fn push_plain(out: &mut String, text: &str) -> Result<(), AllocError>
     ensures { OnOk result (chars (string_bytes out.new) ≡ chars (string_bytes out.old) ++ chars text.now) }
 {
     out.push_str(text)
+}
+
+/// Adds the beginning of a tag: `<` and a name. Attributes may follow, and then what ends the tag.
+pub fn push_name(out: &mut String, name: &str) -> Result<(), AllocError>
+    ensures { OnOk result (chars (string_bytes out.new) ≡ chars (string_bytes out.old) ++ tag_text (chars name.now) []) }
+{
+    push_plain(out, "<")?;
+    push_plain(out, name)
+}
+
+/// Adds the `>` that ends the tag of an element which holds something.
+pub fn push_tag_end(out: &mut String) -> Result<(), AllocError>
+    ensures { OnOk result (chars (string_bytes out.new) ≡ chars (string_bytes out.old) ++ codes ">") }
+{
+    push_plain(out, ">")
+}
+
+/// Adds the `/>` that ends an element which holds nothing.
+pub fn push_empty_end(out: &mut String) -> Result<(), AllocError>
+    ensures { OnOk result (chars (string_bytes out.new) ≡ chars (string_bytes out.old) ++ codes "/>") }
+{
+    push_plain(out, "/>")
 }
 
 /// Adds a tag up to what ends it.
@@ -32,7 +54,7 @@ pub fn push_start(
     ensures { OnOk result (chars (string_bytes out.new) ≡ chars (string_bytes out.old) ++ (tag_text (chars name.now) (map attr_of attributes.now) ++ codes ">")) }
 {
     push_tag(out, name, attributes)?;
-    push_plain(out, ">")
+    push_tag_end(out)
 }
 
 /// Adds an element that holds nothing.
@@ -44,7 +66,7 @@ pub fn push_empty(
     ensures { OnOk result (chars (string_bytes out.new) ≡ chars (string_bytes out.old) ++ (tag_text (chars name.now) (map attr_of attributes.now) ++ codes "/>")) }
 {
     push_tag(out, name, attributes)?;
-    push_plain(out, "/>")
+    push_empty_end(out)
 }
 
 /// Adds the tag that ends an element.

@@ -1,6 +1,5 @@
 -- `</`, the name and `>`.
-use Rattle.std.proofs.Common.{◌≡◌, [], ◌∷◌, ◌++◌, ℕ, List, codes, map, refl, ap, sym, ◌∙◌, append_assoc}
-use Rattle.std.specs.List.{flat_map}
+use Rattle.std.proofs.Common.{◌++◌, codes, ◌∙◌}
 use Rattle.std.specs.Str.{chars}
 use Rattle.std.specs.String.{string_bytes}
 use Rattle.element_text.proofs.AddedLemmas.{more, last}

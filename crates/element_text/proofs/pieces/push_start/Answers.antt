@@ -1,6 +1,5 @@
 -- A tag and `>`.
-use Rattle.std.proofs.Common.{◌≡◌, [], ◌∷◌, ◌++◌, ℕ, List, codes, map, refl, ap, sym, ◌∙◌, append_assoc}
-use Rattle.std.specs.List.{flat_map}
+use Rattle.std.proofs.Common.{codes, map}
 use Rattle.std.specs.Str.{chars}
 use Rattle.std.specs.String.{string_bytes}
 use Rattle.tree_text.specs.Writing.{tag_text}
@@ -14,4 +13,4 @@ returns c =
     let old = chars (string_bytes c.args.out.now) in
     let tagged = chars (string_bytes c.push_tag.new.out) in
     let tag = tag_text (chars c.args.name.now) (map attr_of c.args.attributes.now) in
-    last c.push_plain.result (chars (string_bytes c.push_plain.new.out)) tagged (codes ">") c.push_plain.ensures (more tagged old tag c.in_ok-push_tag.ensures (codes ">"))
+    last c.push_tag_end.result (chars (string_bytes c.push_tag_end.new.out)) tagged (codes ">") c.push_tag_end.ensures (more tagged old tag c.in_ok-push_tag.ensures (codes ">"))
