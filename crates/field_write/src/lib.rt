@@ -5,3 +5,6 @@ mod fields;
 mod kinds;
 
 pub use fields::push_field;
+
+#[cfg(test)]
+mod tests;
