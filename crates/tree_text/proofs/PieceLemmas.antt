@@ -16,7 +16,7 @@ attribute_added name attrs attr =
     ap (λ (t : List ℕ). 0x3c ∷ (name ++ t)) (flat_map-append attr_text attrs (attr ∷ []) ∙ ap (λ (t : List ℕ). flat_map attr_text attrs ++ t) (append-nil (attr_text attr)))
     ∙ ap (λ (t : List ℕ). 0x3c ∷ t) (sym (append_assoc name (flat_map attr_text attrs) (attr_text attr)))
 
-run_text : (characters : List ℕ) → content_text (char_nodes characters) ≡ escaped_text characters
+pub run_text : (characters : List ℕ) → content_text (char_nodes characters) ≡ escaped_text characters
 run_text [] = refl
 run_text (c ∷ cs) = ap (λ (t : List ℕ). text_escape c ++ t) (run_text cs)
 
@@ -26,7 +26,7 @@ run_added nodes characters = flat_map-append child_text nodes (char_nodes charac
 pub child_added : (nodes : List (Node Elem)) (elem : Elem) → content_text (nodes ++ Element elem ∷ []) ≡ content_text nodes ++ written elem
 child_added nodes elem = flat_map-append child_text nodes (Element elem ∷ []) ∙ ap (λ (t : List ℕ). content_text nodes ++ t) (append-nil (written elem))
 
-nodes_content : (nodes : List (Node Elem)) → nodes_text nodes ≡ content_text nodes
+pub nodes_content : (nodes : List (Node Elem)) → nodes_text nodes ≡ content_text nodes
 nodes_content [] = refl
 nodes_content (Element elem ∷ nodes) = ap (λ (t : List ℕ). written elem ++ t) (nodes_content nodes)
 nodes_content (Char c ∷ nodes) = ap (λ (t : List ℕ). text_escape c ++ t) (nodes_content nodes)

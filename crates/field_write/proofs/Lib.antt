@@ -1,0 +1,2 @@
+pub mod AdjustLemmas
+pub mod HeldLemmas

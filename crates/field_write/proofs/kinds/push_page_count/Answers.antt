@@ -1,0 +1,21 @@
+use Rattle.std.proofs.Common.{◌≡◌, [], ◌∷◌, ◌++◌, ℕ, List, codes, refl, ap, sym, ◌∙◌, decimal}
+use Rattle.std.specs.List.{flat_map}
+use Rattle.std.specs.Str.{chars}
+use Rattle.std.specs.String.{string_bytes}
+use Rattle.tree_text.specs.Writing.{attr_text, tag_text}
+use Rattle.markup_nodes.specs.declared.words.Attr.{Attr}
+use Rattle.written_model.specs.Elements.{attribute, unless_empty}
+use Rattle.written_model.specs.Values as named
+use Rattle.written_model.specs.Fields.{format_attribute}
+use Rattle.value_write.proofs.ChainLemmas.{two, three, four, five}
+use Rattle.value_write.proofs.ElementLemmas.{empty_one, empty_two, empty_three}
+use Rattle.field_write.proofs.kinds.push_page_count.Goals as goal
+
+pub returns : goal.returns
+unfolding chars
+returns c =
+    let old = chars (string_bytes c.args.out.now) in
+    let tag = codes "text:page-count" in
+    let first : List Attr = format_attribute c.args.format ∷ [] in
+    three c.push_empty_end.result (chars (string_bytes c.push_empty_end.new.out)) (chars (string_bytes c.push_format.new.out)) (chars (string_bytes c.push_name.new.out)) old (tag_text tag []) (flat_map attr_text first) (codes "/>")
+    c.in_ok-push_name.ensures c.in_ok-push_format.ensures c.push_empty_end.ensures (empty_one tag first)
