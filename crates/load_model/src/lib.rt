@@ -5,4 +5,4 @@ mod element;
 mod names;
 
 pub use element::{Attribute, Attributes, Element};
-pub use names::{Key, Tag};
+pub use names::{DRAW, FO, KNOWN_KEYS, KNOWN_TAGS, Key, OFFICE, STYLE, TABLE, TEXT, Tag, XLINK};

@@ -1,0 +1,11 @@
+//! Names resolved: what the elements and attributes of a tree mean by the prefixes that are declared around them.
+#![tactic(auto)]
+
+mod known;
+mod names;
+mod parts;
+mod scope;
+
+pub use known::{key_named, tag_named};
+pub use names::{attribute_name, element_name, key_of, tag_of};
+pub use scope::Scope;
