@@ -2,3 +2,4 @@ pub mod Texts
 pub mod Cuts
 pub mod Scopes
 pub mod Knowns
+pub mod Declared

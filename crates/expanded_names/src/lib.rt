@@ -5,7 +5,9 @@ mod known;
 mod names;
 mod parts;
 mod scope;
+mod shadows;
 
 pub use known::{key_named, tag_named};
 pub use names::{attribute_name, element_name, key_of, tag_of};
 pub use scope::Scope;
+pub use shadows::{Shadow, enter, leave};
