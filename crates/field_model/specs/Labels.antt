@@ -104,16 +104,19 @@ item_label levels count own = of_level (find (λ level. level.level == own) leve
   of_level None = no_label
   of_level (Some level) = of_what level.what
 
--- the levels of the list style of a name, or of the outline, whose name is empty
-abbrev pub levels_named : List ListStyle → ListStyle → List ℕ → List ListLevel
-levels_named lists outline name = of_name name where
-  of_found : Option ListStyle → List ListLevel
-  of_found None = []
-  of_found (Some list) = list.levels
+-- the levels of a list style, none where there is no style
+abbrev pub levels_of : Option ListStyle → List ListLevel
+levels_of None = []
+levels_of (Some list) = list.levels
 
-  of_name : List ℕ → List ListLevel
-  of_name [] = outline.levels
-  of_name (first ∷ rest) = of_found (find (λ list. bytes_eq list.name name) lists)
+-- the list style of a name
+abbrev pub style_named : List ListStyle → List ℕ → Option ListStyle
+style_named lists name = find (λ list. bytes_eq list.name name) lists
+
+-- the levels by which a name's places are labelled: those of its list style, or of the outline, whose name is empty
+abbrev pub levels_named : List ListStyle → ListStyle → List ℕ → List ListLevel
+levels_named lists outline [] = outline.levels
+levels_named lists outline (first ∷ rest) = levels_of (style_named lists (first ∷ rest))
 
 -- the label of the paragraph that comes behind those before it: it has one where it is an item
 abbrev pub label_behind : List ListStyle → ListStyle → List ParHead → ParHead → Label

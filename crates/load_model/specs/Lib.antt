@@ -2,3 +2,10 @@ pub mod Names
 pub mod Values
 pub mod Left
 pub mod Styles
+pub mod Met
+pub mod Content
+pub mod Fields
+pub mod Blocks
+pub mod Headers
+pub mod Loaded
+pub mod Offences

@@ -1,5 +1,5 @@
 -- What stands in a word.
-use Rattle.std.proofs.Common.{◌≡◌, ◌==◌, ℕ, List, [], ◌∷◌, ◌++◌, Bool, true, false, inl, inr, length, ap, sym, refl, ◌∙◌, Result, Ok, Err, OnOk, IsTrue, ◌↔◌, chars, string_bytes, encode_utf8_all, String, IsUtf8, arith}
+use Rattle.std.proofs.Common.{◌≡◌, ◌==◌, ℕ, List, [], ◌∷◌, ◌++◌, Bool, true, false, inl, inr, length, ap, sym, refl, ◌∙◌, Result, Ok, Err, OnOk, IsTrue, chars, string_bytes, encode_utf8_all, String, IsUtf8, arith}
 use Rattle.std.proofs.lemmas.List.{append-nil}
 use Rattle.std.proofs.lemmas.Str.{chars-append, chars-nil, chars_past_char, encodes-chars, IsUtf8-encode, IsUtf8-string_bytes}
 use Rattle.std.proofs.lemmas.Bool.Decides.{eqb_tells}

@@ -35,6 +35,10 @@ is_text_char c = is_legal c && not (is_among ((0xd, 0xd) ∷ (0x26, 0x26) ∷ (0
 unfoldable pub is_value_char : ℕ → Bool
 is_value_char c = is_legal c && not (is_among ((0x9, 0xa) ∷ (0xd, 0xd) ∷ (0x22, 0x22) ∷ (0x26, 0x27) ∷ (0x3c, 0x3c) ∷ []) c)
 
+-- a character that no escape changes, neither of text nor of values
+unfoldable pub is_plain_char : ℕ → Bool
+is_plain_char c = not (is_among ((0x9, 0xa) ∷ (0xd, 0xd) ∷ (0x22, 0x22) ∷ (0x26, 0x26) ∷ (0x3c, 0x3c) ∷ (0x3e, 0x3e) ∷ []) c)
+
 -- whether a character is a digit of a base
 abbrev pub is_digit_of : ℕ → ℕ → Bool
 is_digit_of base c = nat_lt (digit_value c) base

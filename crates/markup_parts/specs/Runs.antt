@@ -2,10 +2,10 @@
 use Rattle.std.specs.Prelude.{◌≡◌, ◌≢◌, ℕ, Bool, true, false, List, [], ◌∷◌}
 use Rattle.std.specs.List.{AllByRecursion as Each}
 use Rattle.markup_parts.specs.declared.text.Class.{Class}
-use Rattle.markup_parts.specs.declared.text.Class.TheVariants.{Name, Space, Text, Value}
+use Rattle.markup_parts.specs.declared.text.Class.TheVariants.{Name, Space, Text, Value, Plain}
 use Rattle.markup_parts.specs.declared.skipped.Allowed.{Allowed}
 use Rattle.markup_parts.specs.declared.skipped.Allowed.TheVariants.{Legal, Any}
-use Rattle.markup_parts.specs.Chars.{is_legal, is_name_start, is_name_char, is_space, is_text_char, is_value_char}
+use Rattle.markup_parts.specs.Chars.{is_legal, is_name_start, is_name_char, is_space, is_text_char, is_value_char, is_plain_char}
 use Rattle.markup_parts.specs.Constructs.{StartsName, IsName}
 use Rattle.markup_parts.specs.Outcomes.{Outcome, Found, Stopped}
 use Rattle.markup_parts.specs.declared.stop.Stop.TheVariants.{Broken, Cut, Refused}
@@ -16,6 +16,7 @@ passes Name = is_name_char
 passes Space = is_space
 passes Text = is_text_char
 passes Value = is_value_char
+passes Plain = is_plain_char
 
 -- the characters that a construct may hold
 abbrev pub is_allowed : Allowed → ℕ → Bool

@@ -51,3 +51,11 @@ pub fn is_value_char(c: char) -> bool
 {
     is_legal(c) && !matches!(c, '\t'..='\n' | '\r' | '"' | '&'..='\'' | '<')
 }
+
+/// Whether no escape changes a character, neither in text nor in values.
+#[tactic(auto, unfolding(crate::specs::Chars::is_plain_char))]
+pub fn is_plain_char(c: char) -> bool
+    ensures { result ≡ named.is_plain_char c }
+{
+    !matches!(c, '\t'..='\n' | '\r' | '"' | '&' | '<' | '>')
+}

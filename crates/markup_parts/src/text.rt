@@ -7,7 +7,7 @@ ghost use Rattle.markup_parts.specs.Constructs.{IsText};
 ghost use Rattle.markup_parts.specs.Outcomes.{Reads, outcome};
 ghost use Rattle.markup_parts.specs.Runs.{passes, NotBegins};
 
-use crate::chars::{is_name_char, is_space, is_text_char, is_value_char};
+use crate::chars::{is_name_char, is_plain_char, is_space, is_text_char, is_value_char};
 use crate::stop::Stop;
 
 /// The first character and the text behind it.
@@ -71,6 +71,8 @@ pub enum Class {
     Text,
     /// Characters that stand for themselves in an attribute value.
     Value,
+    /// Characters that no escape changes, neither of text nor of values.
+    Plain,
 }
 
 impl Class {
@@ -82,6 +84,7 @@ impl Class {
             Class::Space => is_space(c),
             Class::Text => is_text_char(c),
             Class::Value => is_value_char(c),
+            Class::Plain => is_plain_char(c),
         }
     }
 }

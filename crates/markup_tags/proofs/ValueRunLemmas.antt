@@ -1,10 +1,9 @@
 -- Characters of a value that stand for themselves, a run of them at once.
-use Rattle.std.proofs.Common.{◌≡◌, ◌≢◌, ◌⊎◌, ◌&&◌, ℕ, List, [], ◌∷◌, ◌++◌, Bool, true, false, cond, refl, ap, sym, ◌∙◌, subst, inl, inr, append_assoc, Some, arith}
+use Rattle.std.proofs.Common.{◌≡◌, ◌≢◌, ◌&&◌, ℕ, List, [], ◌∷◌, ◌++◌, Bool, true, false, cond, refl, ap, sym, ◌∙◌, subst, inl, inr, append_assoc, Some, arith}
 use Rattle.std.proofs.lemmas.Bool.Decides.{eqb_tells, nat_tests}
 use Rattle.std.specs.List.{AllByRecursion as Each}
 use Rattle.markup_parts.specs.Chars.{is_legal, is_space, is_value_char}
 use Rattle.markup_parts.specs.Outcomes.{Outcome, Found, Stopped, IsRead, Reads}
-use Rattle.markup_parts.specs.Constructs.{IsLiteral}
 use Rattle.markup_parts.proofs.LiteralLemmas.{true_false, literal_legal}
 use Rattle.markup_parts.proofs.ReadsLemmas.{mapped, reads_on}
 use Rattle.markup_tags.specs.Tags.{IsQuote, IsNextOfValue, IsValue}

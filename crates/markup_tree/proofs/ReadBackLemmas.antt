@@ -45,10 +45,10 @@ unfolding is_legal
 return after = record { digits = codes "13"; run = record { parts = refl; all = (refl, (refl, tt)); ends = refl }; filled = λ e. cc; value = refl }
 
 -- a character is escaped as character data or stands for itself
-abbrev IsPlainText : ℕ → Type 0
+abbrev pub IsPlainText : ℕ → Type 0
 IsPlainText c = (c ≢ 0x26) × (c ≢ 0x3c) × (c ≢ 0x3e) × (text_escape c ≡ c ∷ [])
 
-text_view : (c : ℕ) → (c ≡ 0x26) ⊎ ((c ≡ 0x3c) ⊎ ((c ≡ 0x3e) ⊎ IsPlainText c))
+pub text_view : (c : ℕ) → (c ≡ 0x26) ⊎ ((c ≡ 0x3c) ⊎ ((c ≡ 0x3e) ⊎ IsPlainText c))
 text_view c = elim (eqb_tells c 0x26) [
   | inl is ↦ inl is.1
   | inr a ↦ elim (eqb_tells c 0x3c) [
@@ -67,10 +67,10 @@ text_view c = elim (eqb_tells c 0x26) [
 ]
 
 -- a character of character data; a `]` may not begin `]]>`
-abbrev BracketEnds : List ℕ → Type 0
+abbrev pub BracketEnds : List ℕ → Type 0
 BracketEnds rest = EndsBefore (λ c. c == 0x5d) rest ⊎ ((behind : List ℕ) × (rest ≡ codes "]" ++ behind) × EndsBefore (λ c. c == 0x3e) behind)
 
-abbrev IsCharacter : List ℕ → ℕ → List ℕ → Type 0
+abbrev pub IsCharacter : List ℕ → ℕ → List ℕ → Type 0
 IsCharacter text c rest = IsPlain Inside text (Some (Holds (c ∷ []))) rest
 
 reference_char : (c : ℕ) (reference rest : List ℕ) → IsReference reference (Some c) rest → IsCharacter (0x26 ∷ reference) c rest
@@ -88,7 +88,7 @@ plain_char c rest legal r ends plain = elim (eqb_tells c 0x5d) [
   | inr b ↦ literal_char c rest legal r plain.1 plain.0 b.1
 ]
 
-text_char : (c : ℕ) (rest : List ℕ) → is_legal c ≡ true → c ≢ 0xd → BracketEnds rest → IsCharacter (text_escape c ++ rest) c rest
+pub text_char : (c : ℕ) (rest : List ℕ) → is_legal c ≡ true → c ≢ 0xd → BracketEnds rest → IsCharacter (text_escape c ++ rest) c rest
 text_char c rest legal r ends = elim (text_view c) [
   | inl is ↦ subst (λ (x : ℕ). IsCharacter (text_escape x ++ rest) x rest) (sym is) (reference_char 0x26 (codes "amp;" ++ rest) rest (inl (amp rest)))
   | inr (inl is) ↦ subst (λ (x : ℕ). IsCharacter (text_escape x ++ rest) x rest) (sym is) (reference_char 0x3c (codes "lt;" ++ rest) rest (inl (lt rest)))
@@ -194,10 +194,10 @@ data_back cs legal =
     (λ more. subst (λ (t : List ℕ). IsCharacterData t (Some (line_ends cs)) more) (sym (append_assoc (escaped_text cs) (codes "<") more)) (data_read more cs legal))
 
 -- a character is escaped in a value, or as character data
-abbrev IsPlainValue : ℕ → Type 0
+abbrev pub IsPlainValue : ℕ → Type 0
 IsPlainValue c = (c ≢ 0x22) × (c ≢ 0x9) × (c ≢ 0xa) × (c ≢ 0xd) × (value_escape c ≡ text_escape c)
 
-value_view : (c : ℕ) → (c ≡ 0x22) ⊎ ((c ≡ 0x9) ⊎ ((c ≡ 0xa) ⊎ ((c ≡ 0xd) ⊎ IsPlainValue c)))
+pub value_view : (c : ℕ) → (c ≡ 0x22) ⊎ ((c ≡ 0x9) ⊎ ((c ≡ 0xa) ⊎ ((c ≡ 0xd) ⊎ IsPlainValue c)))
 value_view c = elim (eqb_tells c 0x22) [
   | inl is ↦ inl is.1
   | inr a ↦ elim (eqb_tells c 0x9) [
@@ -261,7 +261,7 @@ value_char_read c rest legal = elim (value_view c) [
   | inr (inr (inr (inr plain))) ↦ subst (λ (t : List ℕ). IsValueChar 0x22 (t ++ rest) c rest) (sym plain.4) (value_plain c rest legal plain)
 ]
 
-value_read : (cs after : List ℕ) → Each (λ c. is_legal c ≡ true) cs → IsValue 0x22 (escaped_value cs ++ 0x22 ∷ after) (Some cs) after
+pub value_read : (cs after : List ℕ) → Each (λ c. is_legal c ≡ true) cs → IsValue 0x22 (escaped_value cs ++ 0x22 ∷ after) (Some cs) after
 value_read [] after all = refl
 value_read (c ∷ cs) after all = (
   escaped_value cs ++ 0x22 ∷ after,

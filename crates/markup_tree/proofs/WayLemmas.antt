@@ -14,7 +14,7 @@ use Rattle.markup_tree.specs.declared.reader.ReadFault.{ReadFault}
 use Rattle.markup_tree.specs.declared.reader.ReadFault.TheVariants as fault
 
 -- one more construct
-leads_more : (whole : List ℕ) (spot : Spot) (between : List Spot) (last next : Spot) → Leads whole spot between last → Follows whole last next → Leads whole spot (between ++ next ∷ []) next
+pub leads_more : (whole : List ℕ) (spot : Spot) (between : List Spot) (last next : Spot) → Leads whole spot between last → Follows whole last next → Leads whole spot (between ++ next ∷ []) next
 leads_more whole spot [] last next e f = (subst (λ (s : Spot). Follows whole s next) (sym e) f, refl)
 leads_more whole spot (s ∷ ss) last next l f = (l.0, leads_more whole s ss last next l.1 f)
 

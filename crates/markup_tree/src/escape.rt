@@ -28,7 +28,7 @@ pub fn escape_text(alloc: Global, text: &str) -> Result<String, AllocError>
 }
 
 /// Adds a character as character data.
-fn push_text(out: &mut String, c: char) -> Result<(), AllocError>
+pub fn push_text(out: &mut String, c: char) -> Result<(), AllocError>
     ensures { OnOk result (chars (string_bytes out.new) ≡ chars (string_bytes out.old) ++ escapes.text_escape c) }
 {
     match c {
@@ -56,7 +56,7 @@ pub fn escape_value(alloc: Global, text: &str) -> Result<String, AllocError>
 }
 
 /// Adds a character as one of an attribute value.
-fn push_value(out: &mut String, c: char) -> Result<(), AllocError>
+pub fn push_value(out: &mut String, c: char) -> Result<(), AllocError>
     ensures { OnOk result (chars (string_bytes out.new) ≡ chars (string_bytes out.old) ++ escapes.value_escape c) }
 {
     match c {

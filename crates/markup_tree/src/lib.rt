@@ -9,7 +9,7 @@ mod laws;
 mod part;
 mod reader;
 
-pub use escape::{escape_text, escape_value};
+pub use escape::{escape_text, escape_value, push_text, push_value};
 pub use laws::one_tree;
 pub use markup_nodes::{Attr, Attrs, Elem, Nodes, Tree, Turn, Word};
 pub use reader::{Offence, OffenceKind, ReadFault, read_tree};

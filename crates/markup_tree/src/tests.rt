@@ -8,6 +8,7 @@ use std::test::Fail;
 use table::{BYTES, TEXTS, WHOLE};
 
 /// An element as `name@place[attribute=value](nodes)`.
+#[tactic(auto, using(markup_nodes::proofs::SizeLemmas::smaller))]
 fn show(out: &mut String, elem: &Elem) -> Result<(), AllocError> {
     out.push_str(elem.name.get())?;
     out.push('@')?;

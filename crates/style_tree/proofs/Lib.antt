@@ -5,3 +5,4 @@ pub mod Marks
 pub mod Finding
 pub mod Noted
 pub mod Along
+pub mod CommonEnd

@@ -1,11 +1,11 @@
 -- Why a style is not defined, removed or changed.
-use Rattle.std.specs.Prelude.{ℕ, if◌then◌else◌, is_some, List, [], ◌∷◌, Option, Some, None}
+use Rattle.std.specs.Prelude.{◌≡◌, ◌⊎◌, ℕ, if◌then◌else◌, is_some, List, [], ◌∷◌, Option, Some, None, Result, MatchResult}
 use Rattle.doc_model.specs.declared.style.Family.{Family}
 use Rattle.doc_model.specs.declared.style.Style.{Style}
 use Rattle.style_model.specs.Lineage.{style_named, would_loop}
 use Rattle.style_model.specs.Effective.{first_stated}
 use Rattle.style_tree.specs.declared.refusal.StyleRefusal.{StyleRefusal}
-use Rattle.style_tree.specs.declared.refusal.StyleRefusal.TheVariants.{NoStyle, Taken, StyleLoop}
+use Rattle.style_tree.specs.declared.refusal.StyleRefusal.TheVariants.{NoStyle, Taken, StyleLoop, NoMemory}
 
 -- NoStyle where there is no style of this family and name
 abbrev pub missing : List Style → Family → List ℕ → Option StyleRefusal
@@ -36,3 +36,7 @@ define_refusal styles style = first_stated (nameless style.name ∷ dangling sty
 -- why a style does not get another parent: it is missing, the parent is, or it would be its own ancestor
 abbrev pub reparent_refusal : List Style → Family → List ℕ → List ℕ → Option StyleRefusal
 reparent_refusal styles of name parent = first_stated (missing styles of name ∷ dangling styles of parent ∷ looping styles of name parent ∷ [])
+
+-- what a call answers where this is why it is refused: that, or a value where nothing is. Only want of memory is free
+abbrev pub Answers : {X : Type 0} → Result X StyleRefusal → Option StyleRefusal → Type 0
+Answers result refusal = MatchResult result (λ value. refusal ≡ None) (λ fault. (fault ≡ NoMemory) ⊎ (refusal ≡ Some fault))

@@ -1,6 +1,8 @@
 //! The styles of a document: a list that is shared without copying it, with an index by family and name.
 #![tactic(auto)]
 
+mod changes;
+mod checks;
 mod index;
 mod kept;
 mod lineage;

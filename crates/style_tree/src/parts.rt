@@ -1,5 +1,5 @@
 //! Changes of a list of styles and its index, which is this list's alone.
-ghost use Rattle.std.specs.Prelude.{◌≡◌, ◌<◌, ◌≤◌, None, Some, length, OnOk, OnErr, insert, remove, slice_get};
+ghost use Rattle.std.specs.Prelude.{◌≡◌, ◌<◌, ◌≤◌, None, Some, length, OnOk, OnErr, insert, remove, slice_get, slice_set};
 ghost use Rattle.std.specs.Arc.{arc_value};
 ghost use Rattle.style_model.specs.Lineage.{style_named};
 ghost use Rattle.style_tree.specs.Index.{SameIndex, Says};
@@ -67,5 +67,23 @@ pub fn take_out(
     styles.remove(at)?;
     index.forget(style.family, &style.name);
     index.shift(Shift::Close(at));
+    Ok(())
+}
+
+/// Puts a style in the place of another.
+pub fn replace_in(
+    alloc: Global,
+    styles: &mut ShareVec<KeptStyle>,
+    at: usize,
+    style: Style,
+) -> Result<(), AllocError>
+    requires in_range { at < length styles.old }
+    ensures ok { OnOk result (styles.new ≡ slice_set styles.old at style) }
+    ensures err { OnErr result (styles.new ≡ styles.old) }
+{
+    let kept = KeptStyle::new(alloc, style)?;
+    let Ok(_) = styles.replace(at, kept) else {
+        return Err(AllocError);
+    };
     Ok(())
 }

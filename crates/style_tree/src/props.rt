@@ -1,10 +1,11 @@
 //! Properties that come from several styles.
 ghost use Rattle.std.specs.Prelude.{◌≡◌, IfOk};
 ghost use Rattle.std.specs.Option.{option_or};
+ghost use Rattle.style_model.specs.Changes.{with_prop};
 ghost use Rattle.style_model.specs.Effective.{where_unstated};
 ghost use Rattle.style_tree.specs.Filled.{filled};
 
-use doc_model::{Align, BreakAt, Length, List, PageStart, Props, TabStops};
+use doc_model::{Align, BreakAt, Length, List, PageStart, Prop, Props, TabStops};
 use std::alloc::{AllocError, Global};
 
 /// The first properties, and where they state nothing, the second.
@@ -67,4 +68,29 @@ pub fn where_unstated(alloc: Global) -> Props
         display: Some(true),
         tabs: TabStops::from_list(List::new(alloc)),
     }
+}
+
+/// The properties with one as given, which may be unstated.
+pub fn with_prop(props: Props, prop: &Prop) -> Result<Props, AllocError>
+    ensures { IfOk result (λ changed. changed ≡ with_prop prop.now props) }
+{
+    let mut props = props;
+    match prop {
+        Prop::MarginLeft(length) => props.margin_left = *length,
+        Prop::MarginRight(length) => props.margin_right = *length,
+        Prop::MarginTop(length) => props.margin_top = *length,
+        Prop::MarginBottom(length) => props.margin_bottom = *length,
+        Prop::Indent(length) => props.indent = *length,
+        Prop::Align(align) => props.align = *align,
+        Prop::BreakBefore(at) => props.break_before = *at,
+        Prop::BreakAfter(at) => props.break_after = *at,
+        Prop::KeepNext(keep) => props.keep_next = *keep,
+        Prop::KeepTogether(keep) => props.keep_together = *keep,
+        Prop::Widows(lines) => props.widows = *lines,
+        Prop::Orphans(lines) => props.orphans = *lines,
+        Prop::PageNumber(start) => props.page_number = *start,
+        Prop::Display(shown) => props.display = *shown,
+        Prop::Tabs(tabs) => props.tabs = either_tabs(None, tabs)?,
+    }
+    Ok(props)
 }

@@ -18,10 +18,10 @@ use std::sync::Arc;
 /// the small part that changes. What is done to the one never shows in the other.
 #[derive(Drop)]
 pub struct StyleTree {
-    alloc: Global,
+    pub(crate) alloc: Global,
     defaults: Arc<Props>,
-    styles: ShareVec<KeptStyle>,
-    index: Arc<Index>,
+    pub(crate) styles: ShareVec<KeptStyle>,
+    pub(crate) index: Arc<Index>,
 }
 
 impl Model for StyleTree {

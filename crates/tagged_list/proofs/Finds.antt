@@ -140,7 +140,7 @@ none_at {T} items spots tag place keeps below least other =
         let m = spot_place items spots tag k d keeps inside (ap (has_tag tag) (sym is) ∙ has) in
         behind m.0 (get_or items k d).key m.1 m.2 (key_within items spots k d keeps inside) (cases_lt m.0 place)
 
-some_entry : {T : Type 0} (items : List (Entry T)) → 0 < length items → Entry T
+pub some_entry : {T : Type 0} (items : List (Entry T)) → 0 < length items → Entry T
 some_entry [] h = absurd (omega arith)
 some_entry (item ∷ items) h = item
 

@@ -1,4 +1,5 @@
 pub mod Counts
 pub mod Finds
 pub mod Halves
+pub mod Lasts
 pub mod Parts

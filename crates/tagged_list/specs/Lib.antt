@@ -1,3 +1,4 @@
 pub mod Entries
 pub mod Keeps
+pub mod Last
 pub mod Tags

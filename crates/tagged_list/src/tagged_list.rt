@@ -1,10 +1,11 @@
 //! The list.
-ghost use Rattle.std.specs.Prelude.{◌≡◌, ◌<◌, ◌≤◌, [], ◌++◌, length, IfOk, OnOk, OnErr, Some, slice_get, position};
+ghost use Rattle.std.specs.Prelude.{◌≡◌, ◌<◌, ◌≤◌, [], ◌++◌, length, take, IfOk, OnOk, OnErr, Some, slice_get, position};
 ghost use Rattle.std.specs.List.{splice};
+ghost use Rattle.tagged_list.specs.Last.{last_position};
 ghost use Rattle.tagged_list.specs.Tags.{has_tag};
 
 use crate::entry::{Entry, Tagged};
-use crate::keys::{gathered, keyed, place_of_key, window};
+use crate::keys::{gathered, key_at, keyed, place_of_key, window};
 use crate::spot::Spot;
 use crate::spots::{forget, place_of, remember};
 use crate::tag::Tag;
@@ -89,6 +90,22 @@ impl<T: Drop> TaggedList<T> {
             return None;
         }
         match self.spots.get(place).key_of(tag) {
+            None => None,
+            Some(key) => Some(place_of_key(&self.items, key)),
+        }
+    }
+
+    /// The place of the last item with the tag among those before `at`, counted from 0. It takes no memory.
+    pub fn last_before(&self, tag: Tag, at: usize) -> Option<usize>
+        requires in_range { at < length self.now }
+        ensures { result ≡ last_position (has_tag tag) (take at self.now) }
+    {
+        let spot = Spot::new(tag, key_at(&self.items, at));
+        let place = place_of(&self.spots, &spot);
+        if place == 0 {
+            return None;
+        }
+        match self.spots.get(place - 1).key_of(tag) {
             None => None,
             Some(key) => Some(place_of_key(&self.items, key)),
         }

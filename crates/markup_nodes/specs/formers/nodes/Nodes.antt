@@ -1,14 +1,13 @@
 -- `Nodes` as a type that may hold the type that holds it.
-use mathlib.Core.Path.{◌≡◌, refl, sym, ap, ◌∙◌}
-use mathlib.Core.Logic.{◌⊎◌, inl, inr}
+use mathlib.Core.Path.{◌≡◌, refl, sym, ◌∙◌}
 use mathlib.Core.List.{List, [], ◌∷◌, ◌++◌, map}
 use Rattle.std.specs.List.{flat_map}
-use mathlib.Core.Former.{Former, Count, none_left, one_more, Row, this, const, pair, or, via, list, list_count, list_put, arity, children}
+use mathlib.Core.Former.{Former, one_more, this, const, pair, or, via, list, children}
 use Prim.Native.Nat.{ℕ}
-use base.Stored.{Gv, gcons, gnum, code_map}
+use base.Stored.{gcons, gnum, code_map}
 use denote.RattleType.{RattleType}
 use denote.HoleLaws.{Alike}
-use denote.HolePlaces.{Recodes, struct_places, laid, stays}
+use denote.HolePlaces.{Recodes, struct_places, laid}
 use denote.Hole.Carrier.{listed}
 use denote.Hole.Fix.{over}
 use denote.Param.Weighed.{Weighed, w_const, w_or, w_via, w_list}
@@ -23,9 +22,8 @@ use Rattle.markup_nodes.specs.declared.nodes.Nodes.TheView.{view, invariant}
 use Rattle.markup_nodes.specs.contracts.nodes.Turn as T
 use Rattle.markup_nodes.specs.contracts.nodes.Nodes as C
 use Rattle.markup_nodes.specs.contracts.nodes.Nodes.TheInside as I
-use Rattle.markup_nodes.specs.contracts.words.Word as word
 use Rattle.markup_nodes.specs.Node.{Node, Element, Char, node_split, node_join, join-split, split-join, node_code}
-use Rattle.markup_nodes.specs.Nodes.{char_nodes, turn_nodes, nodes_of, elems}
+use Rattle.markup_nodes.specs.Nodes.{char_nodes, turn_nodes, elems}
 
 -- a node holds one value or none
 abbrev node : Former {0} → Former {0}

@@ -1,6 +1,6 @@
-use Rattle.std.proofs.Common.{◌≡◌, ◌∙◌, [], length, ap, sym, arith}
+use Rattle.std.proofs.Common.{◌∙◌, length, ap, sym}
 use Rattle.markup_nodes.proofs.WordLemmas.{zero_tested, no_length}
-use Rattle.markup_nodes.proofs.NodeLemmas.{nodes_none, none_first, none_turns, first_none}
+use Rattle.markup_nodes.proofs.NodeLemmas.{none_first, none_turns, first_none}
 use Rattle.markup_nodes.proofs.nodes.Nodes.is_empty.Goals as goal
 
 pub returns-then-not-is_empty : goal.returns-then-not-is_empty

@@ -1,4 +1,4 @@
-use Rattle.std.proofs.Common.{◌≡◌, ◌∙◌, ◌==◌, ℕ, [], length, chars, string_bytes, ap, sym, refl}
+use Rattle.std.proofs.Common.{◌∙◌, ◌==◌, length, string_bytes, ap, sym}
 use Rattle.std.proofs.lemmas.Str.{IsUtf8-string_bytes}
 use Rattle.markup_nodes.proofs.WordLemmas.{zero_tested, no_length, none_chars, chars_none}
 use Rattle.markup_nodes.proofs.words.Word.is_empty.Goals as goal

@@ -1,0 +1,3 @@
+pub mod Shows
+pub mod KeyFrom
+pub mod Displays

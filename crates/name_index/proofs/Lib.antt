@@ -1,0 +1,4 @@
+pub mod Found
+pub mod Scanned
+pub mod Changed
+pub mod Placed

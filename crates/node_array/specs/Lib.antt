@@ -1,0 +1,5 @@
+pub mod Body
+pub mod Containers
+pub mod Held
+pub mod Places
+pub mod Rows

@@ -1,0 +1,4 @@
+pub mod ConstructsWritten
+pub mod NodesWritten
+pub mod TreeWritten
+pub mod PieceLemmas
