@@ -66,7 +66,7 @@ pub declared_holds : (old new : Pairs) (around : List Binding) (attr : Attr) (na
     → Holds old around → Holds new (declared_by attr ++ around)
 declared_holds old new around attr name prefix put namespace named declares p n binds holds =
     let declared : declared_by attr ≡ bindings_for (Some prefix) attr.value =
-        ap (λ (one : List ℕ). declared_by (record { name = one; value = attr.value })) (sym named) ∙ declares attr.value in
+    ap (λ (one : List ℕ). declared_by (record { name = one; value = attr.value })) (sym named) ∙ declares attr.value in
     let of_prefix : List ℕ → Type 0 = λ one. Binds old new one namespace in
     let of_namespace : List ℕ → Type 0 = λ one. Binds old new prefix one in
     let of_bindings : List Binding → Type 0 = λ bindings. Holds new (bindings ++ around) in

@@ -3,3 +3,5 @@ pub mod Cuts
 pub mod Scopes
 pub mod Knowns
 pub mod Declared
+pub mod EqualLemmas
+pub mod TreeLemmas

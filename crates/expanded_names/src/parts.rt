@@ -31,7 +31,7 @@ pub(crate) fn cut(name: &str) -> (Option<&str>, &str)
 }
 
 /// The same text.
-fn as_text(text: &str) -> &str
+pub(crate) fn as_text(text: &str) -> &str
     ensures same { result.now ≡ text.now }
     ensures utf8 { IsUtf8 text.now }
 {

@@ -43,7 +43,12 @@ pub fn leave(scope: &mut Scope, alloc: Global, mut shadows: Vec<Shadow>) -> Resu
 }
 
 /// Puts in force what an attribute declares, if it declares a prefix, and adds what that shadows.
-fn declare(scope: &mut Scope, alloc: Global, attr: &Attr, shadows: &mut Vec<Shadow>) -> Result<(), AllocError>
+fn declare(
+    scope: &mut Scope,
+    alloc: Global,
+    attr: &Attr,
+    shadows: &mut Vec<Shadow>,
+) -> Result<(), AllocError>
     ensures bindings { OnOk result ((around : List Binding) → Holds scope.old around → Holds scope.new (declared_by attr.now ++ around)) }
     ensures shadows { OnOk result ((prefix : List ℕ) → without_all shadows.new.items (in_force scope.new) prefix ≡ without_all shadows.old.items (in_force scope.old) prefix) }
 {

@@ -168,19 +168,22 @@ abbrev pub resolved_node : List Binding → Node (List Binding → Read) → Nod
 resolved_node bindings (Element resolve) = Element (resolve bindings)
 resolved_node bindings (Char c) = Char c
 
+-- an element, resolved where these prefixes are bound within it
+abbrev pub resolved_within : Elem-F (List Binding → Read) → List Binding → Read
+resolved_within elem bindings = roll-Element (record {
+  place = elem.place;
+  tag = tag_of (element_name elem.name bindings);
+  attributes = map (resolved_attribute bindings) elem.attrs;
+  nodes = map (resolved_node bindings) elem.nodes;
+})
+
+-- the same where these are bound around it
+abbrev pub resolved_around : Elem-F (List Binding → Read) → List Binding → Read
+resolved_around elem around = resolved_within elem (bindings_within elem.attrs around)
+
 -- an element, resolved where these prefixes are bound around it
 abbrev pub resolved_in : Elem → List Binding → Read
-resolved_in = fold-Elem (List Binding → Read) of_elem where
-  within : Elem-F (List Binding → Read) → List Binding → Read
-  within elem bindings = roll-Element (record {
-    place = elem.place;
-    tag = tag_of (element_name elem.name bindings);
-    attributes = map (resolved_attribute bindings) elem.attrs;
-    nodes = map (resolved_node bindings) elem.nodes;
-  })
-
-  of_elem : Elem-F (List Binding → Read) → List Binding → Read
-  of_elem elem around = within elem (bindings_within elem.attrs around)
+resolved_in = fold-Elem (List Binding → Read) resolved_around
 
 -- the root, resolved: nothing is bound around it
 abbrev pub resolved : Elem → Read
@@ -192,11 +195,14 @@ has_bad_names name attrs bindings =
     is_none (element_name name bindings) || list_any (λ attr. is_none (attribute_name attr.name bindings)) attrs
     || has_twice (filter_map (λ attr. attribute_name attr.name bindings) attrs)
 
+-- the place of an element of which this holds, where these prefixes are bound within it
+abbrev pub own_bad_place : Elem-F (List Binding → List ℕ) → List Binding → List ℕ
+own_bad_place elem bindings = if has_bad_names elem.name elem.attrs bindings then elem.place ∷ [] else []
+
+-- its own place and those in it, where these are bound around it
+abbrev pub bad_places_around : Elem-F (List Binding → List ℕ) → List Binding → List ℕ
+bad_places_around elem around = own_bad_place elem (bindings_within elem.attrs around) ++ flat_map (λ inner. inner (bindings_within elem.attrs around)) (elems elem.nodes)
+
 -- the places of the elements of which this holds, in the order of the file
 abbrev pub places_of_bad_names : Elem → List Binding → List ℕ
-places_of_bad_names = fold-Elem (List Binding → List ℕ) of_elem where
-  own : Elem-F (List Binding → List ℕ) → List Binding → List ℕ
-  own elem bindings = if has_bad_names elem.name elem.attrs bindings then elem.place ∷ [] else []
-
-  of_elem : Elem-F (List Binding → List ℕ) → List Binding → List ℕ
-  of_elem elem around = own elem (bindings_within elem.attrs around) ++ flat_map (λ inner. inner (bindings_within elem.attrs around)) (elems elem.nodes)
+places_of_bad_names = fold-Elem (List Binding → List ℕ) bad_places_around
