@@ -9,6 +9,7 @@ use Rattle.markup_nodes.specs.declared.tree.Elem.TheOpen.{Elem-F}
 use Rattle.markup_nodes.specs.declared.tree.Elem.TheFolds.{fold-Elem}
 use Rattle.markup_nodes.specs.Node.{Node, Element, Char}
 use Rattle.markup_nodes.specs.Nodes.{elems}
+use Rattle.load_model.specs.declared.names.TheConstants.{OFFICE, DRAW, KNOWN_TAGS, KNOWN_KEYS}
 use Rattle.load_model.specs.declared.names.Tag.{Tag}
 use Rattle.load_model.specs.declared.names.Tag.TheVariants as tag
 use Rattle.load_model.specs.declared.names.Key.{Key}
@@ -116,30 +117,12 @@ abbrev pub has_twice : List Expanded → Bool
 has_twice [] = false
 has_twice (name ∷ names) = list_any (is_same_name name) names || has_twice names
 
--- the namespaces of OpenDocument that are read
-abbrev pub open_document : List ℕ → List ℕ
-open_document word = codes "urn:oasis:names:tc:opendocument:xmlns:" ++ (word ++ codes ":1.0")
+-- the namespaces whose elements are told from others where they have no rule
+unfoldable pub office : List ℕ
+office = OFFICE.now
 
-abbrev pub office : List ℕ
-office = open_document (codes "office")
-
-abbrev pub style : List ℕ
-style = open_document (codes "style")
-
-abbrev pub text : List ℕ
-text = open_document (codes "text")
-
-abbrev pub table : List ℕ
-table = open_document (codes "table")
-
-abbrev pub draw : List ℕ
-draw = open_document (codes "drawing")
-
-abbrev pub fo : List ℕ
-fo = open_document (codes "xsl-fo-compatible")
-
-abbrev pub xlink : List ℕ
-xlink = codes "http://www.w3.org/1999/xlink"
+unfoldable pub draw : List ℕ
+draw = DRAW.now
 
 -- a name that is read, with what it is
 pub record Known (X : Type 0) : Type 0 where
@@ -150,127 +133,13 @@ pub record Known (X : Type 0) : Type 0 where
 abbrev pub known : {X : Type 0} → List ℕ → List ℕ → X → Known X
 known namespace local_name is = record { name = record { namespace = namespace; local_name = local_name }; is = is }
 
--- the elements that are read
+-- the elements that are read, by the table of them
 unfoldable pub known_tags : List (Known Tag)
-known_tags =
-    known office (codes "document") tag.Document
-    ∷ known office (codes "styles") tag.CommonStyles
-    ∷ known office (codes "automatic-styles") tag.AutomaticStyles
-    ∷ known office (codes "master-styles") tag.MasterStyles
-    ∷ known office (codes "body") tag.Body
-    ∷ known office (codes "text") tag.Text
-    ∷ known style (codes "default-style") tag.DefaultStyle
-    ∷ known style (codes "style") tag.Style
-    ∷ known style (codes "paragraph-properties") tag.ParagraphProperties
-    ∷ known style (codes "text-properties") tag.TextProperties
-    ∷ known style (codes "page-layout") tag.PageLayout
-    ∷ known style (codes "page-layout-properties") tag.PageLayoutProperties
-    ∷ known style (codes "master-page") tag.MasterPage
-    ∷ known style (codes "header") tag.Header
-    ∷ known style (codes "footer") tag.Footer
-    ∷ known text (codes "list-style") tag.ListStyle
-    ∷ known text (codes "outline-style") tag.OutlineStyle
-    ∷ known text (codes "list-level-style-number") tag.NumberLevel
-    ∷ known text (codes "list-level-style-bullet") tag.BulletLevel
-    ∷ known text (codes "outline-level-style") tag.OutlineLevel
-    ∷ known text (codes "variable-decls") tag.VariableDeclarations
-    ∷ known text (codes "variable-decl") tag.VariableDeclaration
-    ∷ known text (codes "sequence-decls") tag.SequenceDeclarations
-    ∷ known text (codes "sequence-decl") tag.SequenceDeclaration
-    ∷ known text (codes "p") tag.Paragraph
-    ∷ known text (codes "h") tag.Heading
-    ∷ known text (codes "list") tag.List
-    ∷ known text (codes "list-item") tag.ListItem
-    ∷ known text (codes "list-header") tag.ListHeader
-    ∷ known text (codes "section") tag.Section
-    ∷ known text (codes "section-source") tag.SectionSource
-    ∷ known text (codes "table-of-content") tag.Index
-    ∷ known text (codes "illustration-index") tag.Index
-    ∷ known text (codes "table-index") tag.Index
-    ∷ known text (codes "object-index") tag.Index
-    ∷ known text (codes "user-index") tag.Index
-    ∷ known text (codes "alphabetical-index") tag.Index
-    ∷ known text (codes "bibliography") tag.Index
-    ∷ known text (codes "index-body") tag.Index
-    ∷ known text (codes "index-title") tag.Index
-    ∷ known text (codes "numbered-paragraph") tag.Index
-    ∷ known text (codes "span") tag.Span
-    ∷ known text (codes "s") tag.Spaces
-    ∷ known text (codes "tab") tag.Tab
-    ∷ known text (codes "line-break") tag.LineBreak
-    ∷ known text (codes "note") tag.Note
-    ∷ known text (codes "note-citation") tag.NoteCitation
-    ∷ known text (codes "note-body") tag.NoteBody
-    ∷ known text (codes "sequence") tag.Sequence
-    ∷ known text (codes "variable-set") tag.VariableSet
-    ∷ known text (codes "variable-get") tag.VariableGet
-    ∷ known text (codes "chapter") tag.Chapter
-    ∷ known text (codes "page-number") tag.PageNumber
-    ∷ known text (codes "page-count") tag.PageCount
-    ∷ known text (codes "bookmark-ref") tag.BookmarkReference
-    ∷ known text (codes "sequence-ref") tag.SequenceReference
-    ∷ known text (codes "note-ref") tag.NoteReference
-    ∷ known text (codes "bookmark") tag.Bookmark
-    ∷ known text (codes "bookmark-start") tag.BookmarkStart
-    ∷ known text (codes "bookmark-end") tag.BookmarkEnd
-    ∷ known text (codes "ruby-text") tag.RubyText
-    ∷ known table (codes "table") tag.Table
-    ∷ []
+known_tags = map (λ row. known row.0.now row.1.now row.2) KNOWN_TAGS.now
 
--- the attributes that are read, and those that are left out without being counted
+-- the attributes that are read, and those that are left out without being counted, by the table of them
 unfoldable pub known_keys : List (Known Key)
-known_keys =
-    known office (codes "version") key.Uncounted
-    ∷ known office (codes "value-type") key.Uncounted
-    ∷ known text (codes "display-outline-level") key.Uncounted
-    ∷ known office (codes "mimetype") key.Mimetype
-    ∷ known text (codes "global") key.Global
-    ∷ known style (codes "name") key.Name
-    ∷ known style (codes "family") key.Family
-    ∷ known style (codes "parent-style-name") key.Parent
-    ∷ known style (codes "next-style-name") key.Next
-    ∷ known style (codes "master-page-name") key.Master
-    ∷ known style (codes "default-outline-level") key.DefaultOutlineLevel
-    ∷ known fo (codes "margin") key.Margin
-    ∷ known fo (codes "margin-left") key.MarginLeft
-    ∷ known fo (codes "margin-right") key.MarginRight
-    ∷ known fo (codes "margin-top") key.MarginTop
-    ∷ known fo (codes "margin-bottom") key.MarginBottom
-    ∷ known fo (codes "text-indent") key.Indent
-    ∷ known fo (codes "text-align") key.Align
-    ∷ known fo (codes "break-before") key.BreakBefore
-    ∷ known fo (codes "break-after") key.BreakAfter
-    ∷ known fo (codes "keep-with-next") key.KeepNext
-    ∷ known fo (codes "keep-together") key.KeepTogether
-    ∷ known fo (codes "widows") key.Widows
-    ∷ known fo (codes "orphans") key.Orphans
-    ∷ known style (codes "page-number") key.PageNumber
-    ∷ known text (codes "display") key.Display
-    ∷ known fo (codes "page-width") key.PageWidth
-    ∷ known fo (codes "page-height") key.PageHeight
-    ∷ known style (codes "page-layout-name") key.Layout
-    ∷ known text (codes "level") key.Level
-    ∷ known style (codes "num-format") key.NumberFormat
-    ∷ known style (codes "num-prefix") key.NumberPrefix
-    ∷ known style (codes "num-suffix") key.NumberSuffix
-    ∷ known text (codes "start-value") key.StartValue
-    ∷ known text (codes "display-levels") key.DisplayLevels
-    ∷ known text (codes "bullet-char") key.BulletChar
-    ∷ known text (codes "name") key.TextName
-    ∷ known text (codes "style-name") key.StyleName
-    ∷ known text (codes "outline-level") key.OutlineLevel
-    ∷ known text (codes "protected") key.Protected
-    ∷ known xlink (codes "href") key.Href
-    ∷ known text (codes "section-name") key.SectionName
-    ∷ known text (codes "id") key.Id
-    ∷ known text (codes "note-class") key.NoteClass
-    ∷ known text (codes "ref-name") key.ReferenceName
-    ∷ known text (codes "reference-format") key.ReferenceFormat
-    ∷ known text (codes "c") key.Count
-    ∷ known text (codes "continue-numbering") key.ContinueNumbering
-    ∷ known text (codes "select-page") key.SelectPage
-    ∷ known text (codes "page-adjust") key.PageAdjust
-    ∷ []
+known_keys = map (λ row. known row.0.now row.1.now row.2) KNOWN_KEYS.now
 
 -- what a name is among those that are known
 abbrev pub what_is : {X : Type 0} → Expanded → List (Known X) → Option X
@@ -299,19 +168,22 @@ abbrev pub resolved_node : List Binding → Node (List Binding → Read) → Nod
 resolved_node bindings (Element resolve) = Element (resolve bindings)
 resolved_node bindings (Char c) = Char c
 
+-- an element, resolved where these prefixes are bound within it
+abbrev pub resolved_within : Elem-F (List Binding → Read) → List Binding → Read
+resolved_within elem bindings = roll-Element (record {
+  place = elem.place;
+  tag = tag_of (element_name elem.name bindings);
+  attributes = map (resolved_attribute bindings) elem.attrs;
+  nodes = map (resolved_node bindings) elem.nodes;
+})
+
+-- the same where these are bound around it
+abbrev pub resolved_around : Elem-F (List Binding → Read) → List Binding → Read
+resolved_around elem around = resolved_within elem (bindings_within elem.attrs around)
+
 -- an element, resolved where these prefixes are bound around it
 abbrev pub resolved_in : Elem → List Binding → Read
-resolved_in = fold-Elem (List Binding → Read) of_elem where
-  within : Elem-F (List Binding → Read) → List Binding → Read
-  within elem bindings = roll-Element (record {
-    place = elem.place;
-    tag = tag_of (element_name elem.name bindings);
-    attributes = map (resolved_attribute bindings) elem.attrs;
-    nodes = map (resolved_node bindings) elem.nodes;
-  })
-
-  of_elem : Elem-F (List Binding → Read) → List Binding → Read
-  of_elem elem around = within elem (bindings_within elem.attrs around)
+resolved_in = fold-Elem (List Binding → Read) resolved_around
 
 -- the root, resolved: nothing is bound around it
 abbrev pub resolved : Elem → Read
@@ -323,11 +195,14 @@ has_bad_names name attrs bindings =
     is_none (element_name name bindings) || list_any (λ attr. is_none (attribute_name attr.name bindings)) attrs
     || has_twice (filter_map (λ attr. attribute_name attr.name bindings) attrs)
 
+-- the place of an element of which this holds, where these prefixes are bound within it
+abbrev pub own_bad_place : Elem-F (List Binding → List ℕ) → List Binding → List ℕ
+own_bad_place elem bindings = if has_bad_names elem.name elem.attrs bindings then elem.place ∷ [] else []
+
+-- its own place and those in it, where these are bound around it
+abbrev pub bad_places_around : Elem-F (List Binding → List ℕ) → List Binding → List ℕ
+bad_places_around elem around = own_bad_place elem (bindings_within elem.attrs around) ++ flat_map (λ inner. inner (bindings_within elem.attrs around)) (elems elem.nodes)
+
 -- the places of the elements of which this holds, in the order of the file
 abbrev pub places_of_bad_names : Elem → List Binding → List ℕ
-places_of_bad_names = fold-Elem (List Binding → List ℕ) of_elem where
-  own : Elem-F (List Binding → List ℕ) → List Binding → List ℕ
-  own elem bindings = if has_bad_names elem.name elem.attrs bindings then elem.place ∷ [] else []
-
-  of_elem : Elem-F (List Binding → List ℕ) → List Binding → List ℕ
-  of_elem elem around = own elem (bindings_within elem.attrs around) ++ flat_map (λ inner. inner (bindings_within elem.attrs around)) (elems elem.nodes)
+places_of_bad_names = fold-Elem (List Binding → List ℕ) bad_places_around

@@ -1,5 +1,7 @@
 //! Elements whose names are resolved.
 
+ghost use Rattle.std.specs.Prelude.{◌≡◌};
+
 use crate::names::{Key, Tag};
 use markup_nodes::{Nodes, Word};
 use std::marker::Model;
@@ -27,6 +29,22 @@ impl Model for Attributes {
     ghost Value = { List Attribute };
 
     ghost view = { λ a. a.attributes.items };
+}
+
+impl Attributes {
+    /// The attributes of a vector. It takes no memory.
+    pub fn from_vec(attributes: Vec<Attribute>) -> Attributes
+        ensures { result ≡ attributes.items }
+    {
+        Attributes { attributes }
+    }
+
+    /// The attributes, lent.
+    pub fn get(&self) -> &[Attribute]
+        ensures { result.now ≡ self.now }
+    {
+        self.attributes.as_slice()
+    }
 }
 
 /// An element by what its name means where it stands.

@@ -2,7 +2,7 @@
 
 ghost use Rattle.std.specs.Prelude.{◌≡◌, [], ◌∷◌, ◌++◌, ◌<◌, chars, length, slice_get, Some, OnOk, OnErr, IsTrue, ◌↔◌};
 ghost use Rattle.markup_nodes.specs.Node.{Element, Char};
-ghost use Rattle.markup_nodes.specs.Nodes.{char_nodes, leading, elems, turns_of};
+ghost use Rattle.markup_nodes.specs.Nodes.{char_nodes, nodes_of, leading, elems, turns_of};
 
 use crate::words::Word;
 use std::alloc::{AllocError, Global};
@@ -46,6 +46,21 @@ impl<T> Nodes<T> {
             first: Word::new(alloc),
             turns: Vec::new(alloc),
         }
+    }
+
+    /// The nodes of a first run, and of elements with the characters behind each. It takes no memory.
+    pub fn from_parts(first: Word, turns: Vec<Turn<T>>) -> Nodes<T>
+        ensures { result ≡ nodes_of first turns.items }
+    {
+        Nodes { first, turns }
+    }
+
+    /// The characters before the first element, and the elements with the characters behind each. It takes no memory.
+    pub fn into_parts(self) -> (Word, Vec<Turn<T>>)
+        ensures { nodes_of result.0 result.1.items ≡ self }
+    {
+        let Nodes { first, turns } = self;
+        (first, turns)
     }
 
     /// The characters before the first element, lent.

@@ -100,6 +100,13 @@ impl Attrs {
         Attrs { attrs }
     }
 
+    /// The attributes as a vector. It takes no memory.
+    pub fn into_vec(self) -> Vec<Attr>
+        ensures { result.items ≡ self }
+    {
+        self.attrs
+    }
+
     /// The attributes, lent.
     pub fn get(&self) -> &[Attr]
         ensures { result.now ≡ self.now }

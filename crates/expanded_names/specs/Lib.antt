@@ -1,0 +1,4 @@
+pub mod Rows
+pub mod Scope
+pub mod Shadows
+pub mod Places
