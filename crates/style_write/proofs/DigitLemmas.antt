@@ -1,5 +1,5 @@
 -- What digits add to a string.
-use Rattle.std.proofs.Common.{◌≡◌, ◌<◌, ◌≤◌, ◌^◌, ℕ, ℤ, SFits, w32, pos, negsuc, List, [], ◌∷◌, ◌++◌, Bool, true, false, ap, ◌∙◌, chars, string_bytes, String, Result, Ok, Err, OnOk, int_lt, decimal, refl, arith}
+use Rattle.std.proofs.Common.{◌≡◌, ◌<◌, ◌≤◌, ◌^◌, ℕ, ℤ, SFits, w32, pos, negsuc, List, ◌++◌, ap, ◌∙◌, chars, string_bytes, String, Result, Ok, Err, OnOk, int_lt, decimal, arith}
 use Rattle.std.proofs.lemmas.Str.{chars-append, IsUtf8-string_bytes}
 use Rattle.value_write.proofs.AttributeLemmas.{digits_are}
 use Rattle.style_model.specs.Lengths.{is_below_zero}

@@ -1,5 +1,5 @@
 -- The sign, and the size in millionths of an inch.
-use Rattle.std.proofs.Common.{◌≡◌, ◌++◌, ℕ, ℤ, pos, List, Bool, refl, ap, sym, ◌∙◌, subst, OnOk, int_lt, unsigned_abs, to_z-of_z, w32}
+use Rattle.std.proofs.Common.{◌≡◌, ◌++◌, ℕ, ℤ, pos, Bool, refl, ap, ◌∙◌, subst, OnOk, int_lt, unsigned_abs, to_z-of_z, w32}
 use mir.Val.{to_z, of_z}
 use Rattle.std.specs.Str.{chars}
 use Rattle.std.specs.String.{string_bytes}

@@ -1,9 +1,7 @@
-use Rattle.std.proofs.Common.{◌≡◌, ◌<◌, ◌/◌, ◌%◌, [], ◌∷◌, ◌++◌, ℕ, List, codes, decimal, refl, ap, sym, ◌∙◌, subst, OnOk, arith}
-use Rattle.std.specs.List.{flat_map}
+use Rattle.std.proofs.Common.{◌≡◌, ◌++◌, sym, subst, OnOk}
 use Rattle.std.specs.Str.{chars}
 use Rattle.std.specs.String.{string_bytes}
 use Rattle.std.specs.Fmt.{sign_text}
-use Rattle.std.proofs.lemmas.List.{append-nil}
 use Rattle.style_write.proofs.lengths.push_sign.Goals as goal
 
 pub returns-then-below_zero : goal.returns-then-below_zero
