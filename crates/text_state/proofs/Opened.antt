@@ -2,15 +2,13 @@
 use Rattle.std.proofs.Common.{◌≡◌, List, [], ◌∷◌, ◌++◌, ap, sym, ◌∙◌, append_assoc, refl, Option, Result, Ok, Err}
 use Rattle.std.specs.Prelude.{map, OnOk}
 use Rattle.std.specs.List.{flat_map}
-use Rattle.doc_model.specs.declared.block.Block.{Block}
-use Rattle.doc_model.specs.declared.block.Section.{Section, out-Section, roll-Section}
+use Rattle.doc_model.specs.declared.block.Section.{Section, out-Section}
 use Rattle.doc_model.specs.declared.block.Block.TheViews.{roll-out-Section}
-use Rattle.doc_model.specs.declared.paragraph.Par.{Par, out-Par, roll-Par}
+use Rattle.doc_model.specs.declared.paragraph.Par.{Par, out-Par}
 use Rattle.doc_model.specs.declared.paragraph.Item.{Item}
-use Rattle.doc_model.specs.declared.paragraph.Note.{Note, out-Note, roll-Note}
+use Rattle.doc_model.specs.declared.paragraph.Note.{Note, out-Note}
 use Rattle.doc_model.specs.declared.paragraph.ListPos.{ListPos}
 use Rattle.doc_model.specs.declared.texts.Name.{Name}
-use Rattle.doc_model.specs.declared.paragraph.What.{What}
 use Rattle.doc_model.specs.declared.paragraph.What.TheViews.{roll-out-Par, roll-out-Note}
 use Rattle.node_array.specs.declared.row.Row.{Row}
 use Rattle.node_array.specs.declared.row.Row.TheVariants as row

@@ -3,5 +3,7 @@
 
 mod bare;
 mod body_rows;
+mod rest;
 
 pub use body_rows::array_of;
+pub use rest::{Rest, RestParts};

@@ -2,7 +2,6 @@ use Rattle.std.proofs.Common.{List, ap, ◌∙◌}
 use Rattle.std.specs.List.{splice}
 use Rattle.std.proofs.lemmas.List.{append-nil}
 use Rattle.doc_model.specs.declared.block.Block.{Block}
-use Rattle.node_array.specs.declared.row.Row.{Row}
 use Rattle.node_array.specs.Rows.{rows_of}
 use Rattle.node_array.proofs.OneBody.{rows_known}
 use Rattle.text_state.proofs.body_rows.array_of.Goals as goal
