@@ -1,0 +1,9 @@
+//! The state of a document that is edited: its body as rows.
+#![tactic(auto)]
+
+mod bare;
+mod body_rows;
+mod rest;
+
+pub use body_rows::array_of;
+pub use rest::{Rest, RestParts};
