@@ -1,0 +1,2 @@
+//! The rows of a page with header and footer, and pages as they are printed.
+#![tactic(auto)]
