@@ -1,5 +1,5 @@
 -- The rows of headers and footers. Their fields go by the pages that are printed themselves, not by an earlier page table.
-use Rattle.std.specs.Prelude.{ℕ, ◌-◌, nat_le, ◌==◌, ◌||◌, Bool, if◌then◌else◌, List, [], ◌∷◌, ◌++◌, map, take, chars, slice_get, Option, Some, None}
+use Rattle.std.specs.Prelude.{ℕ, ◌-◌, nat_le, ◌==◌, ◌||◌, if◌then◌else◌, List, [], ◌∷◌, map, take, chars, slice_get, Option, Some, None}
 use Rattle.std.specs.List.{flat_map}
 use Rattle.std.specs.Option.{option_and_then}
 use Rattle.std.specs.Str.{encode_utf8_all}
