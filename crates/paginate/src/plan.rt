@@ -69,7 +69,8 @@ impl Plan {
     }
 
     /// Places the paragraph behind those that were placed: paragraphs of the body in reading order, and then those of
-    /// endnotes. Its footnotes come with it. It looks at the rows of this paragraph and of the pages that are closed.
+    /// endnotes. Its footnotes come with it. It looks at the rows of this paragraph and of the pages that are closed. After want
+    /// of memory the plan stands as before.
     pub fn place_one(&mut self, alloc: Global, par: &ParRows) -> Result<(), AllocError>
         ensures ok { (masters : List Master) (layouts : List PageLayout) (pars : List ParRows) → HasPlaced masters layouts pars self.old → row_count masters (pars ++ par.now ∷ []) < 2 ^ 32 - 65536 → OnOk result (HasPlaced masters layouts (pars ++ par.now ∷ []) self.new) }
         ensures err { (masters : List Master) (layouts : List PageLayout) (pars : List ParRows) → HasPlaced masters layouts pars self.old → OnErr result (HasPlaced masters layouts pars self.new) }
@@ -128,7 +129,7 @@ impl Plan {
     /// Closes the pages that are left, and gives the page table of all. Nothing may be placed afterwards.
     ///
     /// The pages are the greatest that fit: each ends at the last place where it may end at the least level that has one, and not
-    /// past a place where it must end. A document without rows has one page.
+    /// past a place where it must end. A document without rows has one page. After want of memory the plan stands as before.
     pub fn finish(&mut self, alloc: Global) -> Result<PageTable, AllocError>
         ensures ok { (masters : List Master) (layouts : List PageLayout) (pars : List ParRows) → HasPlaced masters layouts pars self.old → IfOk result (λ table. (table ≡ table_of masters layouts pars) × IsFinished masters layouts pars self.new) }
         ensures err { (masters : List Master) (layouts : List PageLayout) (pars : List ParRows) → HasPlaced masters layouts pars self.old → OnErr result (HasPlaced masters layouts pars self.new) }
