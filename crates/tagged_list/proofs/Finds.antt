@@ -65,7 +65,7 @@ pub tag_from_spot : {T : Type 0} (tag : Tag) (entry : Entry T) (given : ℕ) →
 tag_from_spot tag entry given a b h = tag_from_own tag entry.tagged.0 entry.tagged.1 entry.key given a b h
 
 -- the spots of entries, and the entries of spots
-times_cons : {T : Type 0} (x : ℕ) (entry : Entry T) (items : List (Entry T)) → times x (spots_of (entry ∷ items)) ≡ times x (spots_of (entry ∷ [])) + times x (spots_of items)
+pub times_cons : {T : Type 0} (x : ℕ) (entry : Entry T) (items : List (Entry T)) → times x (spots_of (entry ∷ items)) ≡ times x (spots_of (entry ∷ [])) + times x (spots_of items)
 times_cons x entry items = ap (times x) (filter_map-append spot_of (entry ∷ []) items) ∙ times_append x (spots_of (entry ∷ [])) (spots_of items)
 
 times_one : {T : Type 0} (x : ℕ) (entry : Entry T) → spot_of entry ≡ Some x → 0 < times x (spots_of (entry ∷ []))

@@ -1,14 +1,12 @@
 -- The last place of a list that passes a test, and what the search for it finds.
-use Rattle.std.proofs.Common.{◌≡◌, ℕ, ◌+◌, ◌-◌, ◌*◌, ◌^◌, ◌<◌, ◌≤◌, ◌⊎◌, Bool, true, false, cond, List, [], ◌∷◌, ◌++◌, length, get_or, take, map, zero, suc, refl, sym, ap, ◌∙◌, subst, arith, inl, inr, Option, Some, None}
-use Rattle.std.specs.Prelude.{All}
-use Rattle.std.specs.List.Sorted.{IsNonDecreasing}
+use Rattle.std.proofs.Common.{◌≡◌, ℕ, ◌+◌, ◌-◌, ◌^◌, ◌<◌, ◌≤◌, ◌⊎◌, Bool, true, false, cond, List, [], ◌∷◌, ◌++◌, length, get_or, take, zero, suc, refl, sym, ap, ◌∙◌, subst, arith, inl, inr, Option, Some, None}
 use Rattle.std.proofs.lemmas.List.{get_or-map, length-map, get_or-take, length-take, get_or_default}
 use Rattle.std.proofs.lemmas.Bool.{cases_lt}
 use Rattle.tagged_list.specs.declared.entry.Entry.{Entry}
 use Rattle.tagged_list.specs.declared.tag.Tag.{Tag}
 use Rattle.tagged_list.specs.Tags.{has_tag, rank_of, spot_at}
 use Rattle.tagged_list.specs.Last.{last_or_first, last_position}
-use Rattle.tagged_list.specs.Entries.{tagged_of, keys_of, spot_of, spots_of}
+use Rattle.tagged_list.specs.Entries.{tagged_of, keys_of, spot_of}
 use Rattle.tagged_list.specs.Keeps.{times, Keeps}
 use Rattle.tagged_list.proofs.Counts.{times_at}
 use Rattle.tagged_list.proofs.Finds.{is_false, spot_place, entry_there, tag_from_spot, key_is, key_within, some_entry}

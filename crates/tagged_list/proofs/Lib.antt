@@ -3,3 +3,4 @@ pub mod Finds
 pub mod Halves
 pub mod Lasts
 pub mod Parts
+pub mod Sets

@@ -1,5 +1,5 @@
 //! Items with their tags and keys.
-ghost use Rattle.std.specs.Prelude.{◌≡◌, IfOk};
+ghost use Rattle.std.specs.Prelude.{◌≡◌, IfOk, IsTrue};
 ghost use Rattle.std.specs.Arc.{arc_value};
 ghost use Rattle.tagged_list.specs.Entries.{spot_of};
 
@@ -58,6 +58,22 @@ impl<T: Drop> Tagged<T> {
         ensures { result.now ≡ self.now.1 }
     {
         &self.item
+    }
+}
+
+/// Whether two items have the same tag.
+pub fn has_same_tag<T: Drop>(one: &Tagged<T>, other: &Tagged<T>) -> bool
+    ensures { IsTrue result → one.now.0 ≡ other.now.0 }
+{
+    match one.tag() {
+        None => match other.tag() {
+            None => true,
+            Some(_tag) => false,
+        },
+        Some(tag) => match other.tag() {
+            None => false,
+            Some(given) => tag.is_same(given),
+        },
     }
 }
 

@@ -1,5 +1,5 @@
 //! What an item is found by.
-ghost use Rattle.std.specs.Prelude.{◌≡◌};
+ghost use Rattle.std.specs.Prelude.{◌≡◌, IsTrue};
 ghost use Rattle.tagged_list.specs.Tags.{rank_of};
 
 /// What an item of a list is found by. More items of a list may have the same tag.
@@ -19,6 +19,22 @@ impl Tag {
         match self {
             Tag::Number(number) => 2 * u64::from(*number),
             Tag::Depth(depth) => 2 * u64::from(*depth) + 1,
+        }
+    }
+
+    // Whether two tags are the same.
+    pub(crate) fn is_same(self, other: Tag) -> bool
+        ensures { IsTrue result → self ≡ other }
+    {
+        match self {
+            Tag::Number(number) => match other {
+                Tag::Number(given) => number == given,
+                Tag::Depth(_given) => false,
+            },
+            Tag::Depth(depth) => match other {
+                Tag::Number(_given) => false,
+                Tag::Depth(given) => depth == given,
+            },
         }
     }
 }

@@ -1,10 +1,11 @@
 //! The list.
-ghost use Rattle.std.specs.Prelude.{◌≡◌, ◌<◌, ◌≤◌, [], ◌++◌, length, take, IfOk, OnOk, OnErr, Some, slice_get, position};
+ghost use Rattle.std.specs.Prelude.{◌≡◌, ◌<◌, ◌≤◌, [], ◌++◌, length, take, suc, Option, IsTrue, slice_index_or, slice_set, IfOk, OnOk, OnErr, Some, slice_get, position};
 ghost use Rattle.std.specs.List.{splice};
 ghost use Rattle.tagged_list.specs.Last.{last_position};
 ghost use Rattle.tagged_list.specs.Tags.{has_tag};
+ghost use Rattle.tagged_list.specs.declared.tag.Tag.{Tag};
 
-use crate::entry::{Entry, Tagged};
+use crate::entry::{Entry, Tagged, has_same_tag};
 use crate::keys::{gathered, key_at, keyed, place_of_key, window};
 use crate::spot::Spot;
 use crate::spots::{forget, place_of, remember};
@@ -17,7 +18,8 @@ use std::marker::Model;
 ///
 /// Each item has a key, and keys rise from one item to the next. The tags stand in order with the keys of their items, so
 /// that an item is found by two searches by halves: for its tag, and for its key. A change gives keys to what comes in,
-/// between those beside it, and where there are none left, to some items around it too. Nothing else is touched.
+/// between those beside it, and where there are none left, to some items around it too. Nothing else is touched, and where
+/// one item takes the place of one with the same tag, the key stays too.
 #[derive(Drop)]
 pub struct TaggedList<T> {
     alloc: Global,
@@ -113,6 +115,52 @@ impl<T: Drop> TaggedList<T> {
 
     /// Puts clones of the items in the place of those from `from` up to `to`, counted from 0.
     pub fn splice(&mut self, from: usize, to: usize, tagged: &[Tagged<T>]) -> Result<(), AllocError>
+        requires in_order { from ≤ to }
+        requires in_range { to ≤ length self.old }
+        ensures ok { OnOk result (self.new ≡ splice self.old from to tagged.now) }
+        ensures err { OnErr result (self.new ≡ self.old) }
+    {
+        if self.is_kept(from, to, tagged) {
+            self.set(from, &tagged[0])?;
+            return Ok(());
+        }
+        self.respaced(from, to, tagged)
+    }
+
+    // Whether one item comes in the place of one that has the same tag.
+    fn is_kept(&self, from: usize, to: usize, tagged: &[Tagged<T>]) -> bool
+        requires in_order { from ≤ to }
+        requires in_range { to ≤ length self.now }
+        ensures one { IsTrue result → to ≡ suc from }
+        ensures alone { IsTrue result → length tagged.now ≡ 1 }
+        ensures same { IsTrue result → (d : Option Tag × T) → (slice_index_or tagged.now 0 d).0 ≡ (slice_index_or self.now from d).0 }
+    {
+        if to - from != 1 {
+            return false;
+        }
+        if tagged.len() != 1 {
+            return false;
+        }
+        has_same_tag(&tagged[0], &self.items.get(from).tagged)
+    }
+
+    // Puts an item of the same tag in the place of one, so that it has its key.
+    fn set(&mut self, at: usize, tagged: &Tagged<T>) -> Result<(), AllocError>
+        requires in_range { at < length self.old }
+        requires same { (d : Option Tag × T) → tagged.now.0 ≡ (slice_index_or self.old at d).0 }
+        ensures ok { OnOk result (self.new ≡ slice_set self.old at tagged.now) }
+        ensures err { OnErr result (self.new ≡ self.old) }
+    {
+        let key = key_at(&self.items, at);
+        let tagged = tagged.clone()?;
+        match self.items.replace(at, Entry { key, tagged }) {
+            Ok(_was) => Ok(()),
+            Err(_back) => Err(AllocError),
+        }
+    }
+
+    // Puts items in the place of a range, with new keys for them, and for some round them where there is no room.
+    fn respaced(&mut self, from: usize, to: usize, tagged: &[Tagged<T>]) -> Result<(), AllocError>
         requires in_order { from ≤ to }
         requires in_range { to ≤ length self.old }
         ensures ok { OnOk result (self.new ≡ splice self.old from to tagged.now) }
