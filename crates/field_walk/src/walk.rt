@@ -1,5 +1,5 @@
 //! What is kept of the gathered paragraphs.
-ghost use Rattle.std.specs.Prelude.{◌≡◌, ◌≤◌, List, ℕ, [], ◌∷◌, length, OnOk, IfOk, option_copied};
+ghost use Rattle.std.specs.Prelude.{◌≡◌, ◌≤◌, List, ℕ, [], ◌∷◌, length, OnOk, OnErr, IfOk, option_copied};
 ghost use Rattle.field_model.specs.Gathered.{Event, GatheredPar, events, IsNext};
 ghost use Rattle.field_model.specs.Shown.{shown, quote_of, par_of};
 ghost use Rattle.field_walk.specs.Holds.{Holds, HoldsEvents};
@@ -71,8 +71,28 @@ impl Walk {
     /// Gathers the paragraph that comes next in the order of rows: where it stands, its head, its label and its items.
     /// The notes among its items need no paragraphs.
     ///
-    /// It costs what the paragraph has. After want of memory nothing is said of the walk.
+    /// It costs what the paragraph has. After want of memory the walk is as a new one: all is to be gathered again.
     pub fn gather_one(
+        &mut self,
+        place: Gathered,
+        head: &ParHead,
+        label: &Label,
+        items: &RunText<Item>,
+    ) -> Result<(), AllocError>
+        ensures ok { (before : List GatheredPar) → Holds self.old before → IsNext place (events before) → OnOk result (Holds self.new (record { place = place; head = head.now; label = label.now; items = items.now } ∷ before)) }
+        ensures err { OnErr result (Holds self.new []) }
+    {
+        match self.gather_par(place, head, label, items) {
+            Ok(()) => Ok(()),
+            Err(fault) => {
+                *self = Walk::new(self.alloc);
+                Err(fault)
+            }
+        }
+    }
+
+    // Gathers a paragraph. After want of memory a part of it may have been gathered.
+    fn gather_par(
         &mut self,
         place: Gathered,
         head: &ParHead,
