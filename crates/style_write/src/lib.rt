@@ -10,3 +10,6 @@ mod words;
 pub use lengths::push_length;
 pub use properties::{push_paragraph_attributes, push_text_attributes};
 pub use stated::push_length_stated;
+
+#[cfg(test)]
+mod tests;
