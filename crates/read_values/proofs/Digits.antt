@@ -1,11 +1,11 @@
 -- Numbers are the same by the bytes and by the characters of a text.
-use Rattle.std.proofs.Common.{◌≡◌, ℕ, Bool, true, false, not, ◌&&◌, List, [], ◌∷◌, refl, ap, sym, ◌∙◌, chars, bytes_eq, true≢false, IsUtf8, IsAscii, ◌==◌, drop, cond, arith, zero, suc}
+use Rattle.std.proofs.Common.{◌≡◌, ℕ, Bool, true, false, not, ◌&&◌, List, [], ◌∷◌, refl, ap, sym, ◌∙◌, chars, bytes_eq, true≢false, IsUtf8, IsAscii, ◌==◌, drop, cond, arith, zero, suc, ◌<◌, ◌≤◌, Some, None, if◌then◌else◌, nat_le}
 use Rattle.std.specs.List.{list_all}
-use Rattle.std.specs.Str.Parse.{AllDigits, IsNumeral, without_leading_plus}
+use Rattle.std.specs.Str.Parse.{AllDigits, IsNumeral, without_leading_plus, digits_value}
 use Rattle.std.proofs.lemmas.Str.{chars-IsAscii, chars-nil, encodes-chars, encodes-IsAscii, IsUtf8-from_ascii}
 use Rattle.doc_model.proofs.SameText.{same_chars}
 use Rattle.std.proofs.lemmas.Str.Ascii.{IsAscii-nil}
-use Rattle.load_model.specs.Values.{is_digit, is_number}
+use Rattle.load_model.specs.Values.{is_digit, is_number, number}
 
 both_true : (left right : Bool) → (left && right) ≡ true → (left ≡ true) × (right ≡ true)
 both_true true right e = (refl, e)
@@ -53,3 +53,45 @@ no_plus (c ∷ cs) e =
     let digit = (both_true (is_digit c) (list_all is_digit cs) e).0 in
     let other : (c == 43) ≡ false = grind (arith, digit) in
     ap (λ plus. drop (cond plus 1 0) (c ∷ cs)) other
+
+first_fails : {X : Type 0} (one two three : Bool) (x : X) → one ≡ false → (if one && two && three then Some x else None) ≡ None
+first_fails true two three x e = absurd (true≢false e)
+first_fails false two three x e = refl
+
+second_fails : {X : Type 0} (one two three : Bool) (x : X) → two ≡ false → (if one && two && three then Some x else None) ≡ None
+second_fails false two three x e = refl
+second_fails true true three x e = absurd (true≢false e)
+second_fails true false three x e = refl
+
+third_fails : {X : Type 0} (one two three : Bool) (x : X) → three ≡ false → (if one && two && three then Some x else None) ≡ None
+third_fails false two three x e = refl
+third_fails true false three x e = refl
+third_fails true true true x e = absurd (true≢false e)
+third_fails true true false x e = refl
+
+all_hold : {X : Type 0} (one two three : Bool) (x : X) → one ≡ true → two ≡ true → three ≡ true → (if one && two && three then Some x else None) ≡ Some x
+all_hold false two three x e f g = absurd (true≢false (sym e))
+all_hold true false three x e f g = absurd (true≢false (sym f))
+all_hold true true false x e f g = absurd (true≢false (sym g))
+all_hold true true true x e f g = refl
+
+module _ (least greatest : ℕ) (text : List ℕ) where
+  pub number_not : is_number text ≡ false → number least greatest text ≡ None
+  number_not e = first_fails (is_number text) (nat_le least (digits_value 10 text)) (nat_le (digits_value 10 text) greatest) (digits_value 10 text) e
+
+  pub number_low : digits_value 10 text < least → number least greatest text ≡ None
+  number_low low = second_fails (is_number text) (nat_le least (digits_value 10 text)) (nat_le (digits_value 10 text) greatest) (digits_value 10 text) (grind (arith, low))
+
+  pub number_high : greatest < digits_value 10 text → number least greatest text ≡ None
+  number_high high = third_fails (is_number text) (nat_le least (digits_value 10 text)) (nat_le (digits_value 10 text) greatest) (digits_value 10 text) (grind (arith, high))
+
+  pub number_some : is_number text ≡ true → least ≤ digits_value 10 text → digits_value 10 text ≤ greatest → number least greatest text ≡ Some (digits_value 10 text)
+  number_some e low high = all_hold (is_number text) (nat_le least (digits_value 10 text)) (nat_le (digits_value 10 text) greatest) (digits_value 10 text) e (grind (arith, low)) (grind (arith, high))
+
+-- a number is the same by the bytes and by the characters
+pub number_same : (least greatest : ℕ) (text : List ℕ) → IsUtf8 text → number least greatest text ≡ number least greatest (chars text)
+number_same least greatest text utf8 = by (is_number text) refl
+  where
+    by : (is : Bool) → is_number text ≡ is → number least greatest text ≡ number least greatest (chars text)
+    by true e = ap (number least greatest) (sym (number_chars text e))
+    by false e = number_not least greatest text e ∙ sym (number_not least greatest (chars text) (sym (number_by_bytes text utf8) ∙ e))

@@ -36,3 +36,46 @@ fn written(text: &str) -> Option<u32>
         Err(_) => None,
     }
 }
+
+#[tactic(auto, using(crate::proofs::Digits::number_not, crate::proofs::Digits::number_low, crate::proofs::Digits::number_high, crate::proofs::Digits::number_some))]
+fn number_text(least: u32, greatest: u32, text: &str) -> Option<u32>
+    ensures { result ≡ values.number least greatest text.now }
+{
+    if !is_number_text(text.as_bytes()) {
+        return None;
+    }
+    match written(text) {
+        None => None,
+        Some(number) => {
+            if number < least {
+                return None;
+            }
+            if number > greatest {
+                return None;
+            }
+            Some(number)
+        }
+    }
+}
+
+/// A number in a range, which is written in decimal digits.
+#[tactic(auto, using(crate::proofs::Digits::number_same))]
+pub fn number(least: u32, greatest: u32, text: &str) -> Option<u32>
+    ensures { result ≡ values.number least greatest (chars text.now) }
+{
+    number_text(least, greatest, text)
+}
+
+/// The level of a list or a heading: 1 to 10.
+pub fn level(text: &str) -> Option<u32>
+    ensures { result ≡ values.level (chars text.now) }
+{
+    number(1, 10, text)
+}
+
+/// How many lines stand together at a page's end: 0 to 255.
+pub fn line_count(text: &str) -> Option<u32>
+    ensures { result ≡ values.line_count (chars text.now) }
+{
+    number(0, 255, text)
+}
