@@ -1,5 +1,5 @@
 -- What fields ask of all that was gathered: where the sequence fields of a name stand, the fields that set a variable, the bookmarks, the notes and the paragraphs. Each is a filter over the list of what was gathered, and answers in the order of the rows.
-use Rattle.std.specs.Prelude.{ℕ, ◌+◌, ◌-◌, ◌==◌, nat_le, ◌&&◌, Bool, true, false, not, if◌then◌else◌, List, [], ◌∷◌, ◌++◌, map, length, Option, Some, None}
+use Rattle.std.specs.Prelude.{ℕ, ◌+◌, ◌-◌, ◌==◌, nat_le, ◌&&◌, Bool, true, false, if◌then◌else◌, List, [], ◌∷◌, ◌++◌, map, length, Option, Some, None}
 use Rattle.std.specs.Str.{bytes_eq}
 use Rattle.doc_model.specs.declared.paragraph.ParHead.{ParHead}
 use Rattle.doc_model.specs.declared.field.NoteClass.{NoteClass}
@@ -12,7 +12,7 @@ use Rattle.field_model.specs.declared.gathered.Target.{Target}
 use Rattle.field_model.specs.declared.gathered.SequenceTarget.{SequenceTarget}
 use Rattle.field_model.specs.declared.gathered.NoteTarget.{NoteTarget}
 use Rattle.field_model.specs.declared.gathered.ParPlace.{ParPlace}
-use Rattle.field_model.specs.Gathered.{Event, Head, Letter, Counted, Assigned, Asked, Cited, Marked, Other, in_note, note_place, anchor_of, is_in_note, spot, same_text}
+use Rattle.field_model.specs.Gathered.{Event, Head, Counted, Assigned, Cited, Marked, in_note, anchor_of, is_in_note, spot, same_text}
 use Rattle.field_model.specs.Quotes.{pieces}
 
 -- a list, and what there is behind it

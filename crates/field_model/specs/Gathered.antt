@@ -1,9 +1,8 @@
 -- What is gathered of a document, for fields: the heads and the items of its paragraphs, in the order of rows: a note's paragraphs come behind the one that they are cited in. The order in which they are read is told by spots. A list of what is gathered has the last one in front, so that what stands before something is the rest of the list.
-use Rattle.std.specs.Prelude.{◌≡◌, ℕ, ◌+◌, ◌-◌, ◌≤◌, ◌<◌, ◌==◌, nat_lt, nat_le, ◌&&◌, ◌||◌, Bool, true, false, not, if◌then◌else◌, List, [], ◌∷◌, ◌++◌, map, fold, length, take, slice_index, Option, Some, None}
-use Rattle.std.specs.Str.{bytes_eq}
+use Rattle.std.specs.Prelude.{ℕ, ◌-◌, ◌≤◌, ◌==◌, nat_lt, nat_le, ◌&&◌, ◌||◌, Bool, true, false, not, if◌then◌else◌, List, [], ◌∷◌, ◌++◌, fold, length, slice_index}
 use Rattle.doc_model.specs.declared.paragraph.ParHead.{ParHead}
-use Rattle.doc_model.specs.declared.paragraph.Item.{Item, out-Item}
-use Rattle.doc_model.specs.declared.paragraph.What.{What, out-What}
+use Rattle.doc_model.specs.declared.paragraph.Item.{Item}
+use Rattle.doc_model.specs.declared.paragraph.What.{What}
 use Rattle.doc_model.specs.declared.paragraph.What.TheOpen.{What-F}
 use Rattle.doc_model.specs.declared.paragraph.Note.{Note, out-Note}
 use Rattle.doc_model.specs.declared.paragraph.Par.{Par}
@@ -11,7 +10,6 @@ use Rattle.doc_model.specs.declared.field.Field.{Field}
 use Rattle.doc_model.specs.declared.field.Field.TheVariants as fields
 use Rattle.doc_model.specs.declared.field.Format.{Format}
 use Rattle.doc_model.specs.declared.field.NoteClass.{NoteClass}
-use Rattle.doc_model.specs.declared.field.NoteClass.TheVariants.{Footnote, Endnote}
 use Rattle.doc_model.specs.declared.page.Label.{Label}
 use Rattle.doc_model.specs.Parts.{what_of, mark_name}
 use Rattle.field_model.specs.declared.gathered.Gathered.{Gathered}

@@ -1,5 +1,5 @@
 -- Quotes: the characters of a text, a space for each tab and break and between paragraphs, and the texts of its sequence and variable fields. All else is left out, a note with its paragraphs too.
-use Rattle.std.specs.Prelude.{ℕ, Bool, if◌then◌else◌, List, [], ◌∷◌, ◌++◌, map}
+use Rattle.std.specs.Prelude.{Bool, if◌then◌else◌, List, [], ◌∷◌, ◌++◌, map}
 use Rattle.field_model.specs.Cut.{cut}
 use Rattle.field_model.specs.declared.gathered.Piece.{Piece}
 use Rattle.field_model.specs.declared.gathered.Piece.TheVariants.{Gap, Char, Number, Variable}

@@ -1,5 +1,5 @@
 -- What the fields and the citations of a paragraph show, by all that was gathered and a page table.
-use Rattle.std.specs.Prelude.{ℕ, ◌+◌, ◌-◌, ◌==◌, nat_lt, nat_le, ◌&&◌, Bool, true, false, not, if◌then◌else◌, List, [], ◌∷◌, ◌++◌, map, filter, find, drop, length, take, slice_get, slice_index_or, count_by, codes, decimal, Option, Some, None, ℤ, pos, negsuc, ◌+ℤ◌}
+use Rattle.std.specs.Prelude.{ℕ, ◌+◌, ◌-◌, ◌==◌, nat_le, Bool, true, false, if◌then◌else◌, List, [], ◌∷◌, ◌++◌, filter, find, drop, length, take, slice_get, slice_index_or, count_by, codes, Option, Some, None, ℤ, pos, negsuc, ◌+ℤ◌}
 use Rattle.std.specs.List.{flat_map}
 use Rattle.doc_model.specs.declared.field.Field.{Field}
 use Rattle.doc_model.specs.declared.field.Field.TheVariants as fields
@@ -18,7 +18,7 @@ use Rattle.doc_model.specs.declared.field.NoteClass.TheVariants.{Footnote, Endno
 use Rattle.doc_model.specs.declared.page.PageTable.{PageTable}
 use Rattle.doc_model.specs.declared.page.PageEntry.{PageEntry}
 use Rattle.doc_model.specs.declared.page.ParPage.{ParPage}
-use Rattle.doc_model.specs.declared.paragraph.Item.{Item, out-Item}
+use Rattle.doc_model.specs.declared.paragraph.Item.{Item}
 use Rattle.doc_model.specs.declared.paragraph.What.{What}
 use Rattle.doc_model.specs.declared.paragraph.What.TheOpen.{What-F}
 use Rattle.doc_model.specs.declared.paragraph.Note.{Note, out-Note}
@@ -34,7 +34,7 @@ use Rattle.field_model.specs.declared.gathered.NoteTarget.{NoteTarget}
 use Rattle.field_model.specs.declared.gathered.ParPlace.{ParPlace}
 use Rattle.field_model.specs.declared.gathered.Shown.{Shown}
 use Rattle.field_model.specs.Gathered.{Event, is_before, is_up_to, same_text, spot_of}
-use Rattle.field_model.specs.Fields.{counted, assigned, marks, sequence_targets, note_targets, paragraphs, is_named, same_class, place_of}
+use Rattle.field_model.specs.Fields.{counted, assigned, marks, sequence_targets, note_targets, paragraphs, same_class, place_of}
 use Rattle.field_model.specs.Quotes.{pieces}
 use Rattle.field_model.specs.Numbers.{shown_number}
 use Rattle.field_model.specs.Cut.{cut}
