@@ -1,5 +1,5 @@
 -- How many pages are added fits a number of 32 bits.
-use Rattle.std.proofs.Common.{◌≡◌, ◌≤◌, ℕ, ℤ, pos, negsuc, SFits, w32, arith}
+use Rattle.std.proofs.Common.{◌≤◌, ℤ, pos, negsuc, SFits, w32, arith}
 use Rattle.doc_model.specs.Ranges.{IsPageAdjust}
 
 pub fits : (z : ℤ) → IsPageAdjust z → SFits w32 z

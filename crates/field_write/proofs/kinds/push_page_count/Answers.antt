@@ -1,14 +1,12 @@
-use Rattle.std.proofs.Common.{◌≡◌, [], ◌∷◌, ◌++◌, ℕ, List, codes, refl, ap, sym, ◌∙◌, decimal}
+use Rattle.std.proofs.Common.{[], ◌∷◌, List, codes}
 use Rattle.std.specs.List.{flat_map}
 use Rattle.std.specs.Str.{chars}
 use Rattle.std.specs.String.{string_bytes}
 use Rattle.tree_text.specs.Writing.{attr_text, tag_text}
 use Rattle.markup_nodes.specs.declared.words.Attr.{Attr}
-use Rattle.written_model.specs.Elements.{attribute, unless_empty}
-use Rattle.written_model.specs.Values as named
 use Rattle.written_model.specs.Fields.{format_attribute}
-use Rattle.value_write.proofs.ChainLemmas.{two, three, four, five}
-use Rattle.value_write.proofs.ElementLemmas.{empty_one, empty_two, empty_three}
+use Rattle.value_write.proofs.ChainLemmas.{three}
+use Rattle.value_write.proofs.ElementLemmas.{empty_one}
 use Rattle.field_write.proofs.kinds.push_page_count.Goals as goal
 
 pub returns : goal.returns
