@@ -6,7 +6,5 @@ mod names;
 mod offence;
 
 pub use element::{Attribute, Attributes, Element};
-pub use names::{
-    DRAW, FO, KNOWN_KEYS, KNOWN_TAGS, Key, OFFICE, STYLE, TABLE, TEXT, Tag, XLINK,
-};
+pub use names::{DRAW, FO, KNOWN_KEYS, KNOWN_TAGS, Key, OFFICE, STYLE, TABLE, TEXT, Tag, XLINK};
 pub use offence::{TreeOffence, TreeOffenceKind};
