@@ -1,12 +1,12 @@
 -- A name cut at its first colon.
-use Rattle.std.proofs.Common.{◌≡◌, ℕ, ◌+◌, ◌==◌, ◌||◌, nat_lt, Bool, true, false, cond, not, List, [], ◌∷◌, ◌++◌, take, drop, length, refl, sym, ap, ap₂, subst, ◌∙◌, arith, Option, Some, None, zero, suc, ◌<◌, ◌≤◌, lit<}
+use Rattle.std.proofs.Common.{◌≡◌, ℕ, ◌+◌, ◌||◌, Bool, true, false, cond, not, List, [], ◌∷◌, ◌++◌, take, drop, length, refl, sym, ap, ap₂, subst, ◌∙◌, arith, Some, None, zero, suc, ◌<◌, ◌≤◌, lit<}
 use Rattle.std.specs.List.{list_any, before_first, after_first, position_or_len}
 use Rattle.std.specs.Str.{IsUtf8, IsAscii, NonePass, NoCharPasses, chars}
 use Rattle.std.specs.Char.{encode_utf8}
-use Rattle.std.specs.Str.Pattern.{FindsChar, HasCharAt}
+use Rattle.std.specs.Str.Pattern.{FindsChar}
 use Rattle.std.proofs.lemmas.List.{take-append-drop}
 use Rattle.std.proofs.lemmas.Str.{chars-append, chars_past_char, chars_from_encodes, encode_ascii, IsUtf8-append, IsUtf8-from_ascii}
-use Rattle.load_model.specs.Names.{Cut, is_colon, cut_name}
+use Rattle.load_model.specs.Names.{is_colon, cut_name}
 
 colon_ascii : IsAscii (0x3a ∷ [])
 colon_ascii zero = lit< tt

@@ -1,10 +1,10 @@
 -- Rows of names as known names.
-use Rattle.std.proofs.Common.{◌≡◌, ℕ, ◌&&◌, Bool, true, false, cond, List, [], ◌∷◌, map, refl, sym, ap, ap₂, ◌∙◌, Option, Some, None, Bor}
+use Rattle.std.proofs.Common.{◌≡◌, ℕ, ◌&&◌, Bool, true, false, cond, List, [], ◌∷◌, map, refl, ap, ap₂, ◌∙◌, Some, Bor}
 use Rattle.std.specs.List.{find, list_all}
 use Rattle.std.specs.Option.{option_map}
 use Rattle.std.specs.Str.{bytes_eq, IsUtf8, chars}
 use Rattle.std.proofs.lemmas.Bool.{and_parts}
-use Rattle.load_model.specs.Names.{Known, Expanded, known, what_is, is_same_name, known_tags, known_keys}
+use Rattle.load_model.specs.Names.{Known, known, what_is, is_same_name, known_tags, known_keys}
 use Rattle.expanded_names.specs.Rows.{tag_rows, key_rows}
 use Rattle.expanded_names.proofs.Texts.{all_ascii, same_word, either_text}
 

@@ -1,11 +1,10 @@
 -- What is in force among pairs of prefixes and namespaces.
-use Rattle.std.proofs.Common.{◌≡◌, ℕ, Bool, true, false, cond, List, [], ◌∷◌, map, refl, sym, ap, ap₂, ◌∙◌, Option, Some, None, String, string_bytes, IsUtf8}
+use Rattle.std.proofs.Common.{◌≡◌, ℕ, Bool, true, false, cond, List, [], ◌∷◌, map, refl, sym, ap, ◌∙◌, Option, Some, None, String, string_bytes, IsUtf8}
 use Rattle.std.specs.Map.{lookup}
 use Rattle.std.specs.Option.{option_and_then, option_map}
 use Rattle.std.specs.Str.{bytes_eq, chars}
 use Rattle.std.proofs.lemmas.Str.{IsUtf8-string_bytes}
 use Rattle.std.proofs.lemmas.Slice.Eq.{bytes_eq-Decides}
-use Rattle.std.proofs.lemmas.Bool.{false≢true, true≢false}
 use Rattle.indexmap.specs.IndexMap.{insert_entry}
 use Rattle.expanded_names.specs.Scope.{Pairs, unless_empty, in_force}
 use Rattle.expanded_names.proofs.Texts.{same_as_characters, either_text}

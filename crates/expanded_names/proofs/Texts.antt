@@ -1,5 +1,5 @@
 -- Texts and their characters.
-use Rattle.std.proofs.Common.{◌≡◌, ℕ, ◌<◌, ◌&&◌, nat_lt, Bool, true, false, List, [], ◌∷◌, get_or, refl, sym, ap, subst, ◌∙◌, arith, IsTrue, zero, suc}
+use Rattle.std.proofs.Common.{◌≡◌, ℕ, nat_lt, Bool, true, List, [], ◌∷◌, refl, sym, ap, ◌∙◌, arith, IsTrue, zero, suc}
 use Rattle.std.specs.List.{list_all}
 use Rattle.std.specs.Str.{bytes_eq, IsUtf8, IsAscii, encode_utf8_all, chars}
 use Rattle.std.proofs.lemmas.Bool.{and_parts, ltb-true}

@@ -1,5 +1,5 @@
 -- A tree resolved, level by level.
-use Rattle.std.proofs.Common.{◌≡◌, ◌<◌, ◌≤◌, ℕ, Bool, true, false, cond, List, [], ◌∷◌, ◌++◌, length, map, slice_index_or, refl, sym, ap, ap₂, ◌∙◌, append_assoc, append-nil, arith, zero, suc, Option, Some, None}
+use Rattle.std.proofs.Common.{◌≡◌, ◌<◌, ℕ, cond, List, [], ◌∷◌, ◌++◌, length, map, slice_index_or, refl, sym, ap, ap₂, ◌∙◌, append-nil, arith, zero, suc, Option, Some, None}
 use Rattle.std.specs.List.{flat_map, AllByRecursion as Each}
 use mathlib.Core.Former.{this}
 use Rattle.markup_nodes.specs.formers.nodes.Nodes.{the_former}

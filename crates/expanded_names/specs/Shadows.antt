@@ -1,5 +1,5 @@
 -- What declarations shadow, and what is in force when they end.
-use Rattle.std.specs.Prelude.{◌≡◌, ℕ, if◌then◌else◌, List, [], ◌∷◌, Option, chars, string_bytes}
+use Rattle.std.specs.Prelude.{ℕ, if◌then◌else◌, List, [], ◌∷◌, Option, chars, string_bytes}
 use Rattle.std.specs.Str.{bytes_eq}
 use Rattle.expanded_names.specs.Scope.{unless_empty}
 use Rattle.expanded_names.specs.declared.shadows.Shadow.{Shadow}

@@ -1,11 +1,10 @@
-use Rattle.std.proofs.Common.{◌≡◌, ◌∙◌, ◌∷◌, [], ◌++◌, ℕ, List, map, Option, Some, None, sym, ap, ap₂, subst, true, false, rules, arith}
+use Rattle.std.proofs.Common.{◌≡◌, ◌∙◌, ◌∷◌, [], ◌++◌, ℕ, List, map, Option, Some, None, sym, ap, ap₂, subst, true, false}
 use Rattle.std.specs.List.{list_any, AllByRecursion as Each}
 use Rattle.std.specs.Str.{chars}
 use Rattle.std.proofs.lemmas.Bool.{not-true, not-false}
 use Rattle.std.proofs.lemmas.List.{map-append}
 use Rattle.markup_nodes.specs.declared.words.Attr.{Attr}
-use Rattle.load_model.specs.Names.{Expanded, Binding, attribute_name, has_twice}
-use Rattle.expanded_names.specs.Scope.{Holds}
+use Rattle.load_model.specs.Names.{Expanded, attribute_name, has_twice}
 use Rattle.expanded_names.proofs.EqualLemmas.{Texts, AreTexts, name_of, are_same, equal_found, once_more, put_behind, names_with, names_without, each_behind}
 use Rattle.expanded_names.proofs.equal.has_equal_names.Goals as goal
 use Rattle.expanded_names.proofs.equal.has_equal_names.Goals.{in-Some+in_ok-insert-in-Some+else-not-branch, in-None}

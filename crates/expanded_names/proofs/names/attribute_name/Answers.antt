@@ -1,4 +1,4 @@
-use Rattle.std.proofs.Common.{◌≡◌, ◌∙◌, List, ℕ, Some, sym, ap, ap₂}
+use Rattle.std.proofs.Common.{◌≡◌, List, ℕ, Some, sym, ap, ap₂}
 use Rattle.std.specs.Str.{chars}
 use Rattle.load_model.specs.Names.{Cut, Expanded, cut_name}
 use Rattle.expanded_names.proofs.Texts.{declarations_characters}

@@ -1,6 +1,5 @@
-use Rattle.std.proofs.Common.{◌≡◌, ◌∙◌, sym, ap, ap₂, List, ℕ, Some, ◌++◌, ◌∷◌}
+use Rattle.std.proofs.Common.{◌∙◌, ap₂, List, ℕ, Some}
 use Rattle.std.specs.Str.{chars}
-use Rattle.load_model.specs.Names.{Cut}
 use Rattle.expanded_names.proofs.Cuts.{no_split, split_there, around_colon}
 use Rattle.expanded_names.proofs.parts.cut.Goals as goal
 

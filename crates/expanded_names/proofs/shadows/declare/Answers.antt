@@ -1,4 +1,4 @@
-use Rattle.std.proofs.Common.{◌≡◌, ◌∙◌, ap, sym, string_bytes}
+use Rattle.std.proofs.Common.{◌∙◌, ap, sym, string_bytes}
 use Rattle.std.specs.Str.{chars}
 use Rattle.expanded_names.specs.Scope.{in_force}
 use Rattle.expanded_names.specs.Shadows.{without_all}

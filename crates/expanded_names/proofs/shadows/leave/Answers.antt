@@ -1,4 +1,4 @@
-use Rattle.std.proofs.Common.{◌≡◌, ◌∙◌, ap, sym}
+use Rattle.std.proofs.Common.{◌∙◌, ap, sym}
 use Rattle.expanded_names.specs.Scope.{in_force}
 use Rattle.expanded_names.specs.Shadows.{without, without_all}
 use Rattle.expanded_names.proofs.Declared.{without_alike, without_last}

@@ -1,13 +1,12 @@
 use Rattle.std.proofs.Common.{◌≡◌, ◌<◌, ◌∷◌, [], ◌++◌, ℕ, List, map, length, refl, sym, ap, ap₂, cond, vec_len, subst, ◌∙◌, append_assoc, arith, rules}
 use Rattle.std.specs.List.{AllByRecursion as Each}
-use Rattle.std.specs.Str.{chars}
 use Rattle.std.specs.Vec.Iter.{into_iter_items}
 use Rattle.markup_nodes.specs.declared.words.Attr.{Attr}
 use Rattle.markup_nodes.specs.declared.nodes.Turn.{Turn}
 use Rattle.markup_nodes.specs.declared.tree.Elem.{Elem, out-Elem}
 use Rattle.markup_nodes.specs.declared.tree.Elem.TheViews.{size-Elem}
 use Rattle.load_model.specs.declared.element.Element.{Element as Read}
-use Rattle.load_model.specs.Names.{Binding, bindings_within, tag_of, element_name, resolved_attribute, has_bad_names, places_of_bad_names}
+use Rattle.load_model.specs.Names.{bindings_within, tag_of, element_name, resolved_attribute, has_bad_names, places_of_bad_names}
 use Rattle.expanded_names.specs.Scope.{in_force, Holds}
 use Rattle.expanded_names.specs.Places.{first_place, turn_in}
 use Rattle.expanded_names.proofs.Declared.{without_alike}

@@ -1,4 +1,4 @@
-use Rattle.std.proofs.Common.{◌≡◌, ◌∙◌, sym, ap}
+use Rattle.std.proofs.Common.{◌∙◌, sym, ap}
 use Rattle.std.specs.Str.{chars}
 use Rattle.expanded_names.specs.Scope.{unless_empty}
 use Rattle.expanded_names.proofs.Scopes.{force_some, force_none}

@@ -1,4 +1,4 @@
-use Rattle.std.proofs.Common.{refl, sym, ap, Some}
+use Rattle.std.proofs.Common.{sym, ap, Some}
 use Rattle.expanded_names.proofs.Texts.{xml_characters}
 use Rattle.expanded_names.proofs.scope.Scope.namespace.Goals as goal
 

@@ -1,4 +1,4 @@
-use Rattle.std.proofs.Common.{◌≡◌, ◌∙◌, [], ap, unwrap_or}
+use Rattle.std.proofs.Common.{◌∙◌, [], ap, unwrap_or}
 use Rattle.std.proofs.lemmas.Str.{chars-nil}
 use Rattle.expanded_names.specs.Scope.{in_force}
 use Rattle.expanded_names.proofs.scope.Scope.unprefixed.Goals as goal
