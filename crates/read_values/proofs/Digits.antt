@@ -5,7 +5,7 @@ use Rattle.std.specs.Str.Parse.{AllDigits, IsNumeral, without_leading_plus, digi
 use Rattle.std.proofs.lemmas.Str.{chars-IsAscii, chars-nil, encodes-chars, encodes-IsAscii, IsUtf8-from_ascii}
 use Rattle.doc_model.proofs.SameText.{same_chars}
 use Rattle.std.proofs.lemmas.Str.Ascii.{IsAscii-nil}
-use Rattle.load_model.specs.Values.{is_digit, is_number, number}
+use Rattle.load_model.specs.Values.{is_digit, is_number, number, heading_level}
 
 both_true : (left right : Bool) → (left && right) ≡ true → (left ≡ true) × (right ≡ true)
 both_true true right e = (refl, e)
@@ -95,3 +95,27 @@ number_same least greatest text utf8 = by (is_number text) refl
     by : (is : Bool) → is_number text ≡ is → number least greatest text ≡ number least greatest (chars text)
     by true e = ap (number least greatest) (sym (number_chars text e))
     by false e = number_not least greatest text e ∙ sym (number_not least greatest (chars text) (sym (number_by_bytes text utf8) ∙ e))
+
+-- the level of a heading
+module _ (text : List ℕ) where
+  by_tests : (one two three : Bool) → is_number text ≡ one → nat_le 1 (digits_value 10 text) ≡ two → nat_le (digits_value 10 text) 10 ≡ three → heading_level text ≡ (if one && two then Some (if three then digits_value 10 text else 10) else None)
+  by_tests one two three e f g = ap (λ is. if is && nat_le 1 (digits_value 10 text) then Some (if nat_le (digits_value 10 text) 10 then digits_value 10 text else 10) else None) e ∙ ap (λ is. if one && is then Some (if nat_le (digits_value 10 text) 10 then digits_value 10 text else 10) else None) f ∙ ap (λ is. if one && two then Some (if is then digits_value 10 text else 10) else None) g
+
+  pub heading_not : is_number text ≡ false → heading_level text ≡ None
+  heading_not e = by_tests false (nat_le 1 (digits_value 10 text)) (nat_le (digits_value 10 text) 10) e refl refl
+
+  pub heading_low : is_number text ≡ true → digits_value 10 text < 1 → heading_level text ≡ None
+  heading_low e low = by_tests true false (nat_le (digits_value 10 text) 10) e (grind (arith, low)) refl
+
+  pub heading_high : is_number text ≡ true → 10 < digits_value 10 text → heading_level text ≡ Some 10
+  heading_high e high = by_tests true true false e (grind (arith, high)) (grind (arith, high))
+
+  pub heading_some : is_number text ≡ true → 1 ≤ digits_value 10 text → digits_value 10 text ≤ 10 → heading_level text ≡ Some (digits_value 10 text)
+  heading_some e low high = by_tests true true true e (grind (arith, low)) (grind (arith, high))
+
+pub heading_same : (text : List ℕ) → IsUtf8 text → heading_level text ≡ heading_level (chars text)
+heading_same text utf8 = by (is_number text) refl
+  where
+    by : (is : Bool) → is_number text ≡ is → heading_level text ≡ heading_level (chars text)
+    by true e = ap heading_level (sym (number_chars text e))
+    by false e = heading_not text e ∙ sym (heading_not (chars text) (sym (number_by_bytes text utf8) ∙ e))

@@ -79,3 +79,32 @@ pub fn line_count(text: &str) -> Option<u32>
 {
     number(0, 255, text)
 }
+
+/// The level of a heading: a number from 1 up, of which those above 10 are read as 10.
+#[tactic(auto, using(crate::proofs::Digits::heading_same, crate::proofs::Digits::heading_not, crate::proofs::Digits::heading_low, crate::proofs::Digits::heading_high, crate::proofs::Digits::heading_some))]
+pub fn heading_level(text: &str) -> Option<u32>
+    ensures { result ≡ values.heading_level (chars text.now) }
+{
+    heading_level_text(text)
+}
+
+#[tactic(auto, using(crate::proofs::Digits::heading_not, crate::proofs::Digits::heading_low, crate::proofs::Digits::heading_high, crate::proofs::Digits::heading_some))]
+fn heading_level_text(text: &str) -> Option<u32>
+    ensures { result ≡ values.heading_level text.now }
+{
+    if !is_number_text(text.as_bytes()) {
+        return None;
+    }
+    match written(text) {
+        None => Some(10),
+        Some(number) => {
+            if number < 1 {
+                return None;
+            }
+            if number > 10 {
+                return Some(10);
+            }
+            Some(number)
+        }
+    }
+}
