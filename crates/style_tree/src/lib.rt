@@ -16,3 +16,6 @@ mod style_tree;
 pub use refusal::StyleRefusal;
 pub use stated::Stated;
 pub use style_tree::StyleTree;
+
+#[cfg(test)]
+mod tests;
