@@ -11,13 +11,16 @@ both_true : (left right : Bool) → (left && right) ≡ true → (left ≡ true)
 both_true true right e = (refl, e)
 both_true false right e = absurd (true≢false (sym e))
 
-ascii_bytes : (text : List ℕ) → is_ascii_text text ≡ true → IsAscii text
+pub ascii_bytes : (text : List ℕ) → is_ascii_text text ≡ true → IsAscii text
 ascii_bytes [] e place = omega arith
 ascii_bytes (byte ∷ bytes) e zero = grind (arith, (both_true (nat_lt byte 128) (is_ascii_text bytes) e).0)
 ascii_bytes (byte ∷ bytes) e (suc place) = ascii_bytes bytes (both_true (nat_lt byte 128) (is_ascii_text bytes) e).1 place
 
 same_word : (word text : List ℕ) → is_ascii_text word ≡ true → IsUtf8 text → bytes_eq word text ≡ bytes_eq word (chars text)
 same_word word text ascii utf8 = same_chars word text (IsUtf8-from_ascii word (ascii_bytes word ascii)) utf8 ∙ ap (λ letters. bytes_eq letters (chars text)) (chars-IsAscii word (ascii_bytes word ascii))
+
+pub same_text : (text word : List ℕ) → is_ascii_text word ≡ true → IsUtf8 text → bytes_eq text word ≡ bytes_eq (chars text) word
+same_text text word ascii utf8 = same_chars text word utf8 (IsUtf8-from_ascii word (ascii_bytes word ascii)) ∙ ap (bytes_eq (chars text)) (chars-IsAscii word (ascii_bytes word ascii))
 
 find_word : {X : Type 0} (table : List (List ℕ × X)) (text : List ℕ) → list_all (λ row. is_ascii_text row.0) table ≡ true → IsUtf8 text → find (λ row. bytes_eq row.0 text) table ≡ find (λ row. bytes_eq row.0 (chars text)) table
 find_word [] text ascii utf8 = refl

@@ -1,5 +1,5 @@
 //! Numbers, written in decimal digits.
-ghost use Rattle.std.specs.Prelude.{◌≡◌, ◌≤◌, ◌^◌, true, chars, MatchOption};
+ghost use Rattle.std.specs.Prelude.{◌≡◌, ◌≤◌, ◌^◌, true, chars, IfSome, MatchOption};
 ghost use Rattle.std.specs.Str.Parse.{digits_value};
 ghost use Rattle.load_model.specs.Values as values;
 
@@ -39,7 +39,8 @@ fn written(text: &str) -> Option<u32>
 
 #[tactic(auto, using(crate::proofs::Digits::number_not, crate::proofs::Digits::number_low, crate::proofs::Digits::number_high, crate::proofs::Digits::number_some))]
 fn number_text(least: u32, greatest: u32, text: &str) -> Option<u32>
-    ensures { result ≡ values.number least greatest text.now }
+    ensures range { IfSome result (λ number. (least ≤ number) × (number ≤ greatest)) }
+    ensures value { result ≡ values.number least greatest text.now }
 {
     if !is_number_text(text.as_bytes()) {
         return None;
@@ -61,7 +62,8 @@ fn number_text(least: u32, greatest: u32, text: &str) -> Option<u32>
 /// A number in a range, which is written in decimal digits.
 #[tactic(auto, using(crate::proofs::Digits::number_same))]
 pub fn number(least: u32, greatest: u32, text: &str) -> Option<u32>
-    ensures { result ≡ values.number least greatest (chars text.now) }
+    ensures range { IfSome result (λ number. (least ≤ number) × (number ≤ greatest)) }
+    ensures value { result ≡ values.number least greatest (chars text.now) }
 {
     number_text(least, greatest, text)
 }
