@@ -4,6 +4,8 @@
 mod bare;
 mod body_rows;
 mod rest;
+mod styles;
 
 pub use body_rows::array_of;
 pub use rest::{Rest, RestParts};
+pub use styles::styles_of;
