@@ -4,3 +4,4 @@ pub mod OrderLemmas
 pub mod PartLemmas
 pub mod TextLemmas
 pub mod ShowLemmas
+pub mod ForgetLemmas

@@ -1,13 +1,11 @@
 -- What was gathered in the order of rows stands in reading order, in the body and in notes.
-use Rattle.std.proofs.Common.{◌≡◌, ℕ, ◌+◌, ◌-◌, ◌<◌, ◌≤◌, Bool, true, false, List, [], ◌∷◌, ◌++◌, length, get_or, refl, ap, sym, ◌∙◌, arith}
-use Rattle.std.specs.Prelude.{◌&&◌, Option, Some, None, slice_index, nat_lt, nat_le, ◌||◌, ◌==◌}
+use Rattle.std.proofs.Common.{◌≡◌, ℕ, ◌+◌, ◌-◌, ◌<◌, ◌≤◌, Bool, true, false, List, [], ◌∷◌, ◌++◌, length, get_or, refl, ap, ◌∙◌, arith}
+use Rattle.std.specs.Prelude.{◌&&◌, nat_lt, nat_le, ◌||◌, ◌==◌}
 use Rattle.std.specs.List.{All, AllWithin}
 use Rattle.std.specs.Str.{bytes_eq}
 use Rattle.std.specs.List.Sorted.{IsNonDecreasingBy, IsPartitionedBy}
 use Rattle.std.proofs.lemmas.List.{length-append}
 use Rattle.std.proofs.lemmas.List.Elements.{All-push}
-use Rattle.std.specs.List.{count_by}
-use Rattle.std.specs.Prelude.{filter}
 use Rattle.std.proofs.lemmas.List.Sorted.{IsNonDecreasingBy-push}
 use Rattle.std.proofs.Math.ListN.{get_or-append}
 use Rattle.std.proofs.Math.Seq.{get_or-append_right}
@@ -25,7 +23,7 @@ use Rattle.field_model.specs.declared.gathered.Gathered.TheVariants as place
 use Rattle.field_model.specs.declared.gathered.Spot.{Spot}
 use Rattle.field_model.specs.declared.gathered.VariableSet.{VariableSet}
 use Rattle.field_model.specs.Gathered.{Event, Head, Letter, Counted, Assigned, Asked, Cited, Marked, Other, in_note, note_place, note_places, note_number, anchor_of, spot, same_text, is_up_to, is_before, AreInOrder}
-use Rattle.field_model.specs.Fields.{counted, assigned, collect, and_then, when}
+use Rattle.field_model.specs.Fields.{counted, assigned, and_then, when}
 use Rattle.field_walk.specs.Order.{IsRising}
 
 -- the place up to which notes were read: where the paragraph of the body begins, or the item of the note that is read

@@ -1,8 +1,8 @@
 -- Lists of which the front passes a test, and the rest doesn't.
-use Rattle.std.proofs.Common.{◌≡◌, ℕ, zero, suc, ◌+◌, ◌-◌, ◌<◌, ◌≤◌, Bool, true, false, List, [], ◌∷◌, length, take, get_or, refl, ap, sym, ◌∙◌, arith}
+use Rattle.std.proofs.Common.{◌≡◌, ℕ, zero, suc, ◌-◌, ◌<◌, ◌≤◌, Bool, true, false, List, [], ◌∷◌, length, take, refl, ap, sym, ◌∙◌, arith}
 use Rattle.std.proofs.lemmas.List.{take_all}
 use Rattle.std.proofs.lemmas.List.Sums.{sum_by-cons}
-use Rattle.std.specs.Prelude.{cond, Option, Some, None, slice_get, filter}
+use Rattle.std.specs.Prelude.{cond, slice_get, filter}
 use Rattle.std.specs.List.{count_by, AllWithin}
 use Rattle.field_model.specs.Shown.{last_of}
 

@@ -3,7 +3,6 @@ use Rattle.std.proofs.Common.{◌≡◌, ℕ, Bool, true, false, List, [], ◌�
 use Rattle.std.proofs.lemmas.List.{map-append}
 use Rattle.field_model.specs.declared.gathered.Piece.{Piece}
 use Rattle.field_model.specs.declared.gathered.Piece.TheVariants.{Char}
-use Rattle.field_model.specs.Gathered.{same_text}
 use Rattle.field_model.specs.Quotes.{pieces_and}
 
 -- nothing is added

@@ -1,14 +1,14 @@
 -- What a walk holds when one thing more is gathered.
 use Rattle.field_model.specs.Cut.{cut}
-use Rattle.std.proofs.Common.{◌≡◌, ℕ, ◌+◌, Bool, true, false, List, [], ◌∷◌, ◌++◌, map, refl, ap, sym, ◌∙◌, arith}
-use Rattle.std.specs.Prelude.{◌&&◌, ◌-◌, Option, Some, None, nat_eq, if◌then◌else◌, length}
+use Rattle.std.proofs.Common.{◌≡◌, ℕ, ◌+◌, Bool, List, [], ◌∷◌, ◌++◌, map, refl, ap, ◌∙◌, arith}
+use Rattle.std.specs.Prelude.{◌&&◌, ◌-◌, Option, Some, nat_eq, if◌then◌else◌, length}
 use Rattle.std.specs.Str.{bytes_eq}
 use Rattle.field_model.specs.declared.gathered.Piece.{Piece}
 use Rattle.field_model.specs.declared.gathered.Piece.TheVariants.{Gap, Char, Number, Variable}
-use Rattle.field_model.specs.Gathered.{Event, Head, Letter, Counted, Assigned, Asked, Cited, Marked, Other, in_note, note_place, note_places, spot, same_text}
+use Rattle.field_model.specs.Gathered.{Event, Head, Letter, Counted, Assigned, Asked, Cited, Marked, Other, in_note, note_places, spot, same_text}
 use Rattle.field_model.specs.Quotes.{pieces, pieces_and}
 use Rattle.std.proofs.lemmas.List.{length-append}
-use Rattle.indexmap.specs.IndexMap.{IndexMap, get}
+use Rattle.indexmap.specs.IndexMap.{get}
 use Rattle.doc_model.specs.declared.paragraph.ParHead.{ParHead}
 use Rattle.doc_model.specs.declared.page.Label.{Label}
 use Rattle.doc_model.specs.declared.field.Format.{Format}
@@ -23,7 +23,7 @@ use Rattle.field_model.specs.declared.gathered.SequenceTarget.{SequenceTarget}
 use Rattle.field_model.specs.declared.gathered.NoteTarget.{NoteTarget}
 use Rattle.field_model.specs.declared.gathered.ParPlace.{ParPlace}
 use Rattle.field_model.specs.Gathered.{IsNext, anchor_of, is_in_note}
-use Rattle.field_model.specs.Fields.{paragraphs, heads, and_then, when, target, is_named, cited, par_place, chapters, place_of}
+use Rattle.field_model.specs.Fields.{paragraphs, heads, and_then, when, target, is_named, cited, par_place, chapters}
 use Rattle.field_walk.specs.Steps.{cited_now, places_behind}
 use Rattle.field_walk.specs.Chapters.{chapters_behind}
 use Rattle.field_walk.specs.declared.groups.Groups.{Groups}
@@ -31,7 +31,6 @@ use Rattle.field_walk.specs.declared.groups.Texts.{Texts}
 use Rattle.field_walk.specs.Lists.{run_in, list_of, list_in}
 use Rattle.field_walk.specs.Holds.{HoldsEvents}
 use Rattle.field_walk.specs.declared.walk.Walk.{Walk}
-use Rattle.std.specs.Prelude.{Vec}
 use Rattle.field_walk.specs.declared.runs.Runs.{Runs}
 
 pub other_read : (walk : Walk) (all : List Event) → HoldsEvents walk all → HoldsEvents (record walk { count = walk.count + 1 }) (Other ∷ all)

@@ -1,16 +1,15 @@
 -- The texts of a paragraph's items, one after another.
-use Rattle.std.proofs.Common.{◌≡◌, ℕ, zero, suc, ◌+◌, ◌≤◌, ◌<◌, List, [], ◌∷◌, ◌++◌, length, take, drop, get_or, refl, ap, sym, ◌∙◌, arith, append_assoc, append-nil}
+use Rattle.std.proofs.Common.{◌≡◌, ℕ, suc, ◌+◌, ◌<◌, List, [], ◌∷◌, ◌++◌, length, take, get_or, refl, ap, sym, ◌∙◌, arith, append_assoc, append-nil}
 use Rattle.std.specs.List.{between}
 use Rattle.std.proofs.Math.Seq.{take-suc}
 use Rattle.std.proofs.lemmas.List.{take_all}
 use Rattle.std.proofs.Common.{◌-◌}
 use Rattle.doc_model.specs.declared.paragraph.Item.{out-Item}
-use Rattle.doc_model.specs.declared.paragraph.What.{What, out-What, Note as note_item}
+use Rattle.doc_model.specs.declared.paragraph.What.{out-What, Note as note_item}
 use Rattle.doc_model.specs.declared.paragraph.What.TheOpen.{What-F}
 use Rattle.doc_model.specs.declared.paragraph.What.TheViews.{out-roll-What}
 use Rattle.doc_model.specs.declared.paragraph.What.TheVariants.{rolls-Note}
 use Rattle.doc_model.specs.declared.paragraph.Note.{Note, out-Note}
-use Rattle.doc_model.specs.declared.paragraph.Par.{Par}
 use Rattle.doc_model.specs.Parts.{what_of}
 use Rattle.doc_model.specs.declared.paragraph.Item.{Item}
 use Rattle.doc_model.specs.declared.page.PageTable.{PageTable}

@@ -1,12 +1,16 @@
 -- What a walk holds of the paragraphs that were gathered.
-use Rattle.std.specs.Prelude.{◌≡◌, ℕ, Bool, List, length, Option, nat_eq}
+use Rattle.std.specs.Prelude.{◌≡◌, ℕ, Bool, List, length, nat_eq}
 use Rattle.indexmap.specs.IndexMap.{get}
 use Rattle.doc_model.specs.declared.field.NoteClass.TheVariants.{Footnote, Endnote}
 use Rattle.field_model.specs.Gathered.{Event, GatheredPar, events, in_note, note_place, note_places, AreInOrder}
-use Rattle.field_model.specs.Fields.{counted, assigned, marks, sequence_targets, note_targets, paragraphs, place_of, chapters, cited, heads}
+use Rattle.field_model.specs.Fields.{counted, assigned, marks, sequence_targets, note_targets, paragraphs, place_of, chapters, cited}
 use Rattle.field_model.specs.Quotes.{pieces}
 use Rattle.field_walk.specs.Lists.{list_of, list_in, run_in}
 use Rattle.field_walk.specs.declared.walk.Walk.{Walk}
+use Rattle.field_walk.specs.declared.forget.Kept.{Kept}
+use Rattle.field_walk.specs.Steps.{places_before}
+use Rattle.doc_model.specs.declared.paragraph.ParHead.{ParHead}
+use Rattle.field_model.specs.declared.gathered.Gathered.{Gathered}
 
 -- what a walk holds when all these were gathered, the last one in front: the answer of each filter of them
 pub record HoldsEvents (walk : Walk) (all : List Event) : Type 0 where
@@ -30,3 +34,11 @@ pub record HoldsEvents (walk : Walk) (all : List Event) : Type 0 where
 -- what a walk holds when these paragraphs were gathered, the last one in front
 abbrev pub Holds : Walk → List GatheredPar → Type 0
 Holds walk gathered = HoldsEvents walk (events gathered)
+
+-- what was kept before a paragraph began, where all these were gathered
+pub record IsKept (kept : Kept) (place : Gathered) (head : ParHead) (all : List Event) : Type 0 where
+  pub in_note : kept.in_note ≡ in_note all
+  pub anchor : kept.anchor ≡ note_place all
+  pub chapters : kept.chapters ≡ chapters all
+  pub note_places : places_before place kept.note_places.items (note_places all) ≡ note_places all
+  pub before : kept.before ≡ place_of head.id.0 all

@@ -1,5 +1,5 @@
 -- Spots in reading order.
-use Rattle.std.specs.Prelude.{ℕ, List}
+use Rattle.std.specs.Prelude.{List}
 use Rattle.std.specs.List.Sorted.{IsNonDecreasingBy}
 use Rattle.field_model.specs.declared.gathered.Spot.{Spot}
 

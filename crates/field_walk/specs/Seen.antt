@@ -1,5 +1,5 @@
 -- How far the items of a paragraph are shown.
-use Rattle.std.specs.Prelude.{◌≡◌, ℕ, ◌+◌, List, length}
+use Rattle.std.specs.Prelude.{◌≡◌, ◌+◌, List, length}
 use Rattle.doc_model.specs.declared.paragraph.Item.{Item}
 use Rattle.doc_model.specs.declared.field.NoteClass.TheVariants.{Footnote, Endnote}
 use Rattle.field_model.specs.declared.gathered.ParPlace.{ParPlace}

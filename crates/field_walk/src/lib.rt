@@ -2,6 +2,7 @@
 #![tactic(auto)]
 
 mod chapters;
+mod forget;
 mod groups;
 mod pages;
 mod quotes;

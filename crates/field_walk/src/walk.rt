@@ -71,7 +71,7 @@ impl Walk {
     /// Gathers the paragraph that comes next in the order of rows: where it stands, its head, its label and its items.
     /// The notes among its items need no paragraphs.
     ///
-    /// It costs what the paragraph has. After want of memory the walk is as a new one: all is to be gathered again.
+    /// It costs what the paragraph has. After want of memory the walk is as before the call.
     pub fn gather_one(
         &mut self,
         place: Gathered,
@@ -80,32 +80,16 @@ impl Walk {
         items: &RunText<Item>,
     ) -> Result<(), AllocError>
         ensures ok { (before : List GatheredPar) → Holds self.old before → IsNext place (events before) → OnOk result (Holds self.new (record { place = place; head = head.now; label = label.now; items = items.now } ∷ before)) }
-        ensures err { OnErr result (Holds self.new []) }
+        ensures err { (before : List GatheredPar) → Holds self.old before → IsNext place (events before) → OnErr result (Holds self.new before) }
     {
-        match self.gather_par(place, head, label, items) {
+        let kept = self.read_head(place, head, label)?;
+        match self.read_all(items) {
             Ok(()) => Ok(()),
             Err(fault) => {
-                *self = Walk::new(self.alloc);
+                self.forget_head(place, head, kept);
                 Err(fault)
             }
         }
-    }
-
-    // Gathers a paragraph. After want of memory a part of it may have been gathered.
-    fn gather_par(
-        &mut self,
-        place: Gathered,
-        head: &ParHead,
-        label: &Label,
-        items: &RunText<Item>,
-    ) -> Result<(), AllocError>
-        ensures { (before : List GatheredPar) → Holds self.old before → IsNext place (events before) → OnOk result (Holds self.new (record { place = place; head = head.now; label = label.now; items = items.now } ∷ before)) }
-    {
-        self.read_head(place, head, label)?;
-        let (front, back) = items.slice(0, items.len());
-        self.read_items(front)?;
-        self.read_items(back)?;
-        Ok(())
     }
 
     /// What the fields and the note items of the gathered paragraph of this number show, in order, each with its place

@@ -1,4 +1,4 @@
-use Rattle.std.proofs.Common.{sym, rules, refl, ◌∙◌}
+use Rattle.std.proofs.Common.{rules, refl}
 use Rattle.std.proofs.lemmas.List.Sorted.{IsPartitionPoint-from_clause}
 use Rattle.field_model.specs.Gathered.{is_before}
 use Rattle.field_walk.proofs.OrderLemmas.{before_parts}

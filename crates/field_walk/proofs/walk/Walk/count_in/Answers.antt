@@ -1,4 +1,4 @@
-use Rattle.std.proofs.Common.{◌≡◌, List, sym, ap, subst, ◌∙◌}
+use Rattle.std.proofs.Common.{List, sym, ap, subst, ◌∙◌}
 use Rattle.std.specs.List.{count_by}
 use Rattle.field_model.specs.declared.gathered.Spot.{Spot}
 use Rattle.field_model.specs.Gathered.{is_up_to}

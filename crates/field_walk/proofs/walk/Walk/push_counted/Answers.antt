@@ -1,4 +1,4 @@
-use Rattle.std.proofs.Common.{◌≡◌, ◌++◌, ℕ, ap, ◌∙◌}
+use Rattle.std.proofs.Common.{◌++◌, ℕ, ap, ◌∙◌}
 use Rattle.field_model.specs.Numbers.{shown_number}
 use Rattle.field_model.specs.Cut.{cut}
 use Rattle.field_walk.proofs.walk.Walk.push_counted.Goals as goal

@@ -1,7 +1,7 @@
 use Rattle.std.proofs.Common.{◌≡◌, ℕ, List, [], ◌∷◌, ◌++◌, rules, ap, sym, ◌∙◌, append_assoc}
 use Rattle.field_model.specs.Cut.{cut}
 use Rattle.number_text.proofs.CutLemmas.{cut_then}
-use Rattle.field_model.specs.Shown.{par_quote, joined}
+use Rattle.field_model.specs.Shown.{par_quote}
 use Rattle.field_walk.proofs.TextLemmas.{joined_some}
 use Rattle.field_walk.proofs.walk.Walk.push_joined.Goals as goal
 

@@ -1,8 +1,7 @@
-use Rattle.std.proofs.Common.{◌≡◌, ◌++◌, List, take, drop, chars}
-use Rattle.std.specs.Prelude.{string_bytes}
+use Rattle.std.proofs.Common.{◌≡◌, ◌++◌, List, take}
 use Rattle.field_model.specs.Cut.{cut}
 use Rattle.field_model.specs.Gathered.{Event}
-use Rattle.field_model.specs.Shown.{quote, up_to_gap}
+use Rattle.field_model.specs.Shown.{quote}
 use Rattle.field_walk.specs.Holds.{HoldsEvents}
 use Rattle.field_walk.proofs.walk.Walk.push_pieces.Given as goal
 

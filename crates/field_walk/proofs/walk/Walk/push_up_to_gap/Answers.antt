@@ -1,4 +1,4 @@
-use Rattle.std.proofs.Common.{◌≡◌, ℕ, List, length, rules, arith, ap, sym, ◌∙◌, ◌++◌, refl, ◌+◌}
+use Rattle.std.proofs.Common.{◌≡◌, length, rules, arith, refl, ◌+◌}
 use Rattle.field_model.specs.Cut.{kept_characters}
 use Rattle.number_text.proofs.CutLemmas.{cut_none, cut_full}
 use Rattle.field_model.specs.Shown.{quote, up_to_gap}

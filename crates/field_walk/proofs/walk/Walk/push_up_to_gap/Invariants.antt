@@ -1,5 +1,4 @@
-use Rattle.std.proofs.Common.{◌≡◌, ◌++◌, List, take, drop, chars}
-use Rattle.std.specs.Prelude.{string_bytes}
+use Rattle.std.proofs.Common.{◌≡◌, ◌++◌, List, take, drop}
 use Rattle.field_model.specs.Cut.{cut}
 use Rattle.field_model.specs.Gathered.{Event}
 use Rattle.field_model.specs.Shown.{quote, up_to_gap}
