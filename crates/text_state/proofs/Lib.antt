@@ -1,2 +1,4 @@
 pub mod Opened
 pub mod NewStyle
+pub mod Gathered
+pub mod Followed

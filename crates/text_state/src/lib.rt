@@ -3,9 +3,13 @@
 
 mod bare;
 mod body_rows;
+mod names;
+mod places;
 mod rest;
+mod section_places;
 mod styles;
 
 pub use body_rows::array_of;
+pub use names::names_of_document;
 pub use rest::{Rest, RestParts};
 pub use styles::styles_of;

@@ -1,0 +1,7 @@
+use Rattle.std.proofs.Common.{◌≡◌, ◌++◌, take}
+use Rattle.std.specs.List.{flat_map}
+use Rattle.text_state.specs.NamePlaces.{block_places}
+use Rattle.text_state.proofs.places.push_body.Given as goal
+
+abbrev pub invariant-loop-block : goal.invariant-loop-block
+invariant-loop-block l = l.places.items ≡ l.fn.places.items ++ flat_map (block_places l.kind) (take l.block-index l.body)
