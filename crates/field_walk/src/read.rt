@@ -1,20 +1,15 @@
 //! Gathering: a head, and one item after another.
-ghost use Rattle.std.specs.Prelude.{◌≡◌, ◌+◌, ◌++◌, ◌∷◌, ◌-◌, slice_index, List, ℕ, Bool, length, OnOk, OnErr, MatchResult, take, chars, map};
-ghost use Rattle.field_model.specs.Gathered.{Event, Head, Letter, Counted, Assigned, Asked, Cited, Marked, Other, field_event, item_event, with_items, IsNext, spot, anchor_of, note_places, is_in_note};
-ghost use Rattle.field_model.specs.Fields.{target, cited, par_place};
+ghost use Rattle.std.specs.Prelude.{◌≡◌, ◌+◌, ◌++◌, ◌∷◌, ◌-◌, slice_index, List, ℕ, Bool, length, OnOk, OnErr, MatchResult, ◌&&◌, nat_eq, Some, IfOk, [], if◌then◌else◌};
+ghost use Rattle.field_model.specs.Gathered.{Event, Head, Letter, Counted, Assigned, Asked, Cited, Marked, Other, field_event, item_event, with_items, IsNext, spot, anchor_of, note_places, is_in_note, same_text};
+ghost use Rattle.field_model.specs.Fields.{target, cited, par_place, and_then, when, is_named};
 ghost use Rattle.field_walk.specs.Steps.{cited_now, places_behind, places_before};
-ghost use Rattle.std.specs.Prelude.{◌&&◌, nat_eq, Some};
 ghost use Rattle.std.specs.Str.{bytes_eq};
 ghost use Rattle.indexmap.specs.IndexMap.{get};
-ghost use Rattle.field_model.specs.Gathered.{same_text};
-ghost use Rattle.field_model.specs.Fields.{and_then, when, is_named};
 ghost use Rattle.doc_model.specs.declared.field.NoteClass.TheVariants.{Footnote, Endnote};
-ghost use Rattle.std.specs.Prelude.{IfOk, [], if◌then◌else◌};
-ghost use Rattle.field_model.specs.Quotes.{pieces_and};
 ghost use Rattle.field_model.specs.declared.gathered.Piece.TheVariants.{Char};
 ghost use Rattle.doc_model.specs.Parts.{mark_name};
 ghost use Rattle.field_walk.specs.Holds.{HoldsEvents, IsKept};
-ghost use Rattle.field_walk.specs.Lists.{run_in, list_of, list_in};
+ghost use Rattle.field_walk.specs.Lists.{list_of, list_in};
 
 use crate::chapters::chapters_with;
 use crate::forget::Kept;

@@ -1,5 +1,5 @@
 //! What is kept of the gathered paragraphs.
-ghost use Rattle.std.specs.Prelude.{◌≡◌, ◌≤◌, List, ℕ, [], ◌∷◌, length, OnOk, OnErr, IfOk, option_copied};
+ghost use Rattle.std.specs.Prelude.{◌≡◌, ◌≤◌, List, [], ◌∷◌, OnOk, OnErr, IfOk, option_copied};
 ghost use Rattle.field_model.specs.Gathered.{Event, GatheredPar, events, IsNext};
 ghost use Rattle.field_model.specs.Shown.{shown, quote_of, par_of};
 ghost use Rattle.field_walk.specs.Holds.{Holds, HoldsEvents};
