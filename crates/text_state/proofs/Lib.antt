@@ -2,3 +2,4 @@ pub mod Opened
 pub mod NewStyle
 pub mod Gathered
 pub mod Followed
+pub mod Numbers

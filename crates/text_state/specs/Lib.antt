@@ -1,3 +1,4 @@
 pub mod PartRows
 pub mod RestOf
 pub mod NamePlaces
+pub mod State

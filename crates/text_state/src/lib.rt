@@ -7,9 +7,11 @@ mod names;
 mod places;
 mod rest;
 mod section_places;
+mod state;
 mod styles;
 
 pub use body_rows::array_of;
 pub use names::names_of_document;
 pub use rest::{Rest, RestParts};
+pub use state::TextState;
 pub use styles::styles_of;
