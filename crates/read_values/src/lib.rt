@@ -19,3 +19,6 @@ pub use tables::{
     page_select, reference_form, sequence_form, truth,
 };
 pub use texts::{name, name_or_none, one_character};
+
+#[cfg(test)]
+mod tests;
