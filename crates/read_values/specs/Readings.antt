@@ -1,5 +1,6 @@
 -- Readings, and the rules that have them.
 use Rattle.std.specs.Prelude.{ℕ, Bool, List, is_some}
+use Rattle.load_model.specs.Fields.{own_name}
 use Rattle.load_model.specs.Values as value
 use Rattle.load_model.specs.Values.{Rule}
 use Rattle.load_model.specs.declared.names.Key.{Key}
@@ -11,6 +12,7 @@ abbrev pub has_value : Reading → List ℕ → Bool
 has_value reading.Truth text = is_some (value.truth text)
 has_value reading.Name text = is_some (value.name text)
 has_value reading.NameOrNone text = is_some (value.name_or_none text)
+has_value (reading.OwnName is_first) text = is_some (own_name is_first text)
 has_value reading.AnyText text = is_some (value.any_text text)
 has_value reading.OneCharacter text = is_some (value.one_character text)
 has_value (reading.Number least greatest) text = is_some (value.number least greatest text)

@@ -4,8 +4,8 @@ ghost use Rattle.read_values.specs.Readings.{has_value};
 
 use crate::{
     alignment, break_at, chapter_display, display, family, heading_level, keep, length, level,
-    line_count, name, name_or_none, note_class, number, number_format, one_character, page_adjust,
-    page_select, page_start, reference_form, sequence_form, truth,
+    line_count, name, name_or_none, note_class, number, number_format, one_character, own_name,
+    page_adjust, page_select, page_start, reference_form, sequence_form, truth,
 };
 
 /// How the value of an attribute is read.
@@ -17,6 +17,8 @@ pub enum Reading {
     Name,
     /// A name that may be empty.
     NameOrNone,
+    /// The name of something that others refer to: whether it is the first of that name.
+    OwnName(bool),
     /// Any text.
     AnyText,
     /// One character.
@@ -68,6 +70,7 @@ impl Reading {
             Reading::Truth => truth(text).is_some(),
             Reading::Name => name(text).is_some(),
             Reading::NameOrNone => name_or_none(text).is_some(),
+            Reading::OwnName(is_first) => own_name(is_first, text).is_some(),
             Reading::AnyText => true,
             Reading::OneCharacter => one_character(text).is_some(),
             Reading::Number(least, greatest) => number(least, greatest, text).is_some(),

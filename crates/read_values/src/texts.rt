@@ -1,6 +1,7 @@
 //! Names and single characters.
 ghost use Rattle.std.specs.Prelude.{◌≡◌, chars, length};
 ghost use Rattle.std.specs.Option.{option_map};
+ghost use Rattle.load_model.specs.Fields as fields;
 ghost use Rattle.load_model.specs.Values as values;
 
 /// The most characters of a name.
@@ -32,6 +33,20 @@ pub fn name(text: &str) -> Option<&str>
         return None;
     }
     name_or_none(text)
+}
+
+/// The name of something that others refer to: the empty one, which is none, or a name where it is the first of that name.
+#[tactic(auto, using(crate::proofs::Names::own_empty, crate::proofs::Names::own_first, crate::proofs::Names::own_later))]
+pub fn own_name(is_first: bool, text: &str) -> Option<&str>
+    ensures { option_map (λ name. chars name.now) result ≡ fields.own_name is_first (chars text.now) }
+{
+    if text.is_empty() {
+        return Some(text);
+    }
+    if is_first {
+        return name(text);
+    }
+    None
 }
 
 /// The character of a text that has just one.
