@@ -16,3 +16,6 @@ mod walk;
 
 pub use field_model::{Gathered, Shown};
 pub use walk::Walk;
+
+#[cfg(test)]
+mod tests;
