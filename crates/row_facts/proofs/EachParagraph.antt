@@ -16,7 +16,7 @@ use Rattle.node_array.specs.declared.row.Row.{Row}
 use Rattle.node_array.specs.Rows.{rows_of}
 use Rattle.row_facts.specs.Paragraphs.{BarePar, bare_of, paragraph_in}
 use Rattle.row_facts.specs.Around.{Opened, open_behind}
-use Rattle.row_facts.proofs.Flat.{bare_row}
+use Rattle.paragraph_rows.specs.OwnRow.{own_row}
 use Rattle.row_facts.proofs.Lists.{map_flat, flat_flat}
 use Rattle.row_facts.proofs.Told.{told, Passes, rows_tell}
 
@@ -40,7 +40,7 @@ along : (opened : Opened) (rows : List Row) → told tell opened rows ≡ flat_m
 along opened [] = refl
 along opened (r ∷ rows) = ap (λ (behind : List BarePar). paragraph_in r ++ behind) (along (open_behind opened r) rows)
 
-of_par : (par : Par) (opened : Opened) → flat_map (λ p. tell opened (bare_row p)) (with_notes par) ≡ tells opened (roll-Block (Block-F.Par par))
+of_par : (par : Par) (opened : Opened) → flat_map (λ p. tell opened (own_row p)) (with_notes par) ≡ tells opened (roll-Block (Block-F.Par par))
 of_par par opened =
     flat_map_single bare_of (with_notes par)
     ∙ ap (map bare_of) (sym (append-nil (with_notes par)) ∙ ap (flat_map with_notes) (sym (par_paragraphs par)))

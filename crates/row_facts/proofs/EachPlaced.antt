@@ -20,7 +20,7 @@ use Rattle.node_array.specs.declared.row.Row.{Row}
 use Rattle.node_array.specs.Rows.{rows_of}
 use Rattle.row_facts.specs.Paragraphs.{bare_of, paragraph_in, row_head}
 use Rattle.row_facts.specs.Around.{Opened, open_behind, sections_open, PlacedRow, paragraphs_placed}
-use Rattle.row_facts.proofs.Flat.{bare_row}
+use Rattle.paragraph_rows.specs.OwnRow.{own_row}
 use Rattle.row_facts.proofs.Lists.{map_flat, map_map, map_same}
 use Rattle.row_facts.proofs.Told.{told, Passes, rows_tell}
 
@@ -48,7 +48,7 @@ along : (opened : Opened) (rows : List Row) → told tell opened rows ≡ paragr
 along opened [] = refl
 along opened (r ∷ rows) = ap (λ (behind : List PlacedRow). tell opened r ++ behind) (along (open_behind opened r) rows)
 
-of_par : (par : Par) (opened : Opened) → flat_map (λ p. tell opened (bare_row p)) (with_notes par) ≡ tells opened (roll-Block (Block-F.Par par))
+of_par : (par : Par) (opened : Opened) → flat_map (λ p. tell opened (own_row p)) (with_notes par) ≡ tells opened (roll-Block (Block-F.Par par))
 of_par par opened =
     flat_map_single (λ p. within_opened opened (unplaced p)) (with_notes par) ∙ sym (map_map (within_opened opened) unplaced (with_notes par))
     ∙ ap (map (within_opened opened)) (sym (par_placed par))

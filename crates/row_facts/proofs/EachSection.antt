@@ -18,7 +18,7 @@ use Rattle.node_array.specs.declared.row.Row.{Row}
 use Rattle.node_array.specs.Rows.{rows_of}
 use Rattle.row_facts.specs.Paragraphs.{section_in, row_head}
 use Rattle.row_facts.specs.Around.{Opened, open_behind}
-use Rattle.row_facts.proofs.Flat.{bare_row}
+use Rattle.paragraph_rows.specs.OwnRow.{own_row}
 use Rattle.row_facts.proofs.Lists.{map_flat, none_flat}
 use Rattle.row_facts.proofs.Told.{told, Passes, rows_tell}
 
@@ -42,7 +42,7 @@ along : (opened : Opened) (rows : List Row) → told tell opened rows ≡ flat_m
 along opened [] = refl
 along opened (r ∷ rows) = ap (λ (behind : List RowHead). section_in r ++ behind) (along (open_behind opened r) rows)
 
-of_par : (par : Par) (opened : Opened) → flat_map (λ p. tell opened (bare_row p)) (with_notes par) ≡ tells opened (roll-Block (Block-F.Par par))
+of_par : (par : Par) (opened : Opened) → flat_map (λ p. tell opened (own_row p)) (with_notes par) ≡ tells opened (roll-Block (Block-F.Par par))
 of_par par opened = none_flat (with_notes par) ∙ ap (map row_head) (sym (par_sections par))
 
 of_section : (x : Section-F Block Section) (opened : Opened)

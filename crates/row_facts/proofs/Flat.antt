@@ -16,19 +16,15 @@ use Rattle.node_array.specs.declared.row.Row.{Row}
 use Rattle.node_array.specs.declared.row.Row.TheVariants as row
 use Rattle.node_array.specs.Rows.{par_rows}
 use Rattle.node_array.proofs.OneBody.{item_rows, what_rows, note_rows, par_opens, note_opens, item_opens}
-use Rattle.row_facts.specs.Paragraphs.{bare_what, bare_item, bare_of}
-
--- a paragraph as its row
-abbrev pub bare_row : Par → Row
-bare_row par = row.Par (bare_of par).head (bare_of par).items
+use Rattle.paragraph_rows.specs.OwnRow.{bare, head_of, own_row}
 
 -- the rows of a note whose paragraphs hold no notes
 abbrev pub note_text : Note → List Row
-note_text note = row.NoteText ∷ (map bare_row (out-Note note).pars ++ row.End ∷ [])
+note_text note = row.NoteText ∷ (map own_row (out-Note note).pars ++ row.End ∷ [])
 
 -- the rows of a paragraph of whose notes none holds one
 abbrev pub text_rows : Par → List Row
-text_rows par = bare_row par ∷ flat_map note_text (notes_of par)
+text_rows par = own_row par ∷ flat_map note_text (notes_of par)
 
 -- one level of a note, item and paragraph
 note_rolled : (note : Note) → note_rows note ≡ (roll-Note (record (out-Note note) { pars = [] }), row.NoteText ∷ (flat_map (λ rows. rows) (map par_rows (out-Note note).pars) ++ row.End ∷ []))
@@ -39,22 +35,6 @@ item_rolled item = ap item_rows (sym (roll-out-Item item)) ∙ item_opens (out-I
 
 what_rolled : (what : What) → what_rows (roll-What (out-What what)) ≡ what_rows what
 what_rolled what = ap what_rows (roll-out-What what)
-
--- an item without the paragraphs of its note
-bare_whats : (x : What-F What Item Note Par) → (what_rows (roll-What x)).0 ≡ bare_what x
-bare_whats (What-F.Char c) = simp fold-roll-What
-bare_whats What-F.Tab = simp fold-roll-What
-bare_whats What-F.Break = simp fold-roll-What
-bare_whats (What-F.Field field) = simp fold-roll-What
-bare_whats (What-F.Note note) =
-    let opens : (what_rows (roll-What (What-F.Note note))).0 ≡ roll-What (What-F.Note (note_rows note).0) = simp fold-roll-What in
-    opens ∙ ap (λ (y : Note × List Row). roll-What (What-F.Note y.0)) (note_rolled note)
-bare_whats (What-F.Mark mark) = simp fold-roll-What
-
-pub bare_items : (item : Item) → (item_rows item).0 ≡ bare_item item
-bare_items item =
-    ap (λ (y : Item × List Row). y.0) (item_rolled item)
-    ∙ ap (λ (w : What). roll-Item (record (out-Item item) { what = w })) (sym (ap (λ (y : What × List Row). y.0) (what_rolled (out-Item item).what)) ∙ bare_whats (what_of item))
 
 -- the rows of the note that an item is
 abbrev rows_of_what : What-F What Item Note Par → List Row
@@ -92,20 +72,20 @@ items_alone [] each = refl
 items_alone (item ∷ items) each =
     ap (λ (front : List Row). front ++ flat_map (λ i. i.1) (map item_rows items)) (item_has item ∙ none_there (what_of item) each.0) ∙ items_alone items each.1
 
-bare_all : (items : List Item) → map (λ i. i.0) (map item_rows items) ≡ map bare_item items
+bare_all : (items : List Item) → map (λ i. i.0) (map item_rows items) ≡ map bare items
 bare_all [] = refl
-bare_all (item ∷ items) = ap (λ (i : Item). i ∷ map (λ i. i.0) (map item_rows items)) (bare_items item) ∙ ap (λ (is : List Item). bare_item item ∷ is) (bare_all items)
+bare_all (item ∷ items) = ap (λ (is : List Item). bare item ∷ is) (bare_all items)
 
-par_rolled : (par : Par) → par_rows par ≡ bare_row par ∷ flat_map (λ i. i.1) (map item_rows (out-Par par).items)
+par_rolled : (par : Par) → par_rows par ≡ own_row par ∷ flat_map (λ i. i.1) (map item_rows (out-Par par).items)
 par_rolled par =
     ap par_rows (sym (roll-out-Par par)) ∙ par_opens (out-Par par)
-    ∙ ap (λ (items : List Item). row.Par (bare_of par).head items ∷ flat_map (λ i. i.1) (map item_rows (out-Par par).items)) (bare_all (out-Par par).items)
+    ∙ ap (λ (items : List Item). row.Par (head_of par) items ∷ flat_map (λ i. i.1) (map item_rows (out-Par par).items)) (bare_all (out-Par par).items)
 
-pars_alone : (pars : List Par) → Each (λ par. Each (λ item. IsNoNote (what_of item)) (out-Par par).items) pars → flat_map (λ rows. rows) (map par_rows pars) ≡ map bare_row pars
+pars_alone : (pars : List Par) → Each (λ par. Each (λ item. IsNoNote (what_of item)) (out-Par par).items) pars → flat_map (λ rows. rows) (map par_rows pars) ≡ map own_row pars
 pars_alone [] each = refl
 pars_alone (par ∷ pars) each =
-    ap (λ (front : List Row). front ++ flat_map (λ rows. rows) (map par_rows pars)) (par_rolled par ∙ ap (λ (behind : List Row). bare_row par ∷ behind) (items_alone (out-Par par).items each.0))
-    ∙ ap (λ (behind : List Row). bare_row par ∷ behind) (pars_alone pars each.1)
+    ap (λ (front : List Row). front ++ flat_map (λ rows. rows) (map par_rows pars)) (par_rolled par ∙ ap (λ (behind : List Row). own_row par ∷ behind) (items_alone (out-Par par).items each.0))
+    ∙ ap (λ (behind : List Row). own_row par ∷ behind) (pars_alone pars each.1)
 
 note_is_text : (note : Note) → IsNote note → (note_rows note).1 ≡ note_text note
 note_is_text note is =
@@ -155,4 +135,4 @@ items_are_text (item ∷ items) each =
     ∙ sym (flat_map-append note_text (note_of item) (flat_map note_of items))
 
 pub par_is_text : (par : Par) → Each IsNote (notes_of par) → par_rows par ≡ text_rows par
-par_is_text par each = par_rolled par ∙ ap (λ (behind : List Row). bare_row par ∷ behind) (items_are_text (out-Par par).items each)
+par_is_text par each = par_rolled par ∙ ap (λ (behind : List Row). own_row par ∷ behind) (items_are_text (out-Par par).items each)

@@ -16,8 +16,9 @@ use Rattle.node_array.specs.declared.row.Row.{Row}
 use Rattle.node_array.specs.declared.row.Row.TheVariants as row
 use Rattle.node_array.specs.Rows.{par_rows, block_rows, rows_of}
 use Rattle.node_array.proofs.OneBody.{section_rows, section_opens}
+use Rattle.paragraph_rows.specs.OwnRow.{own_row}
 use Rattle.row_facts.specs.Around.{Opened, open_behind}
-use Rattle.row_facts.proofs.Flat.{bare_row, note_text, par_is_text, each_front, each_rest}
+use Rattle.row_facts.proofs.Flat.{note_text, par_is_text, each_front, each_rest}
 
 -- what is told along rows
 abbrev pub told : {X : Type 0} → (Opened → Row → List X) → Opened → List Row → List X
@@ -33,18 +34,18 @@ pub record Passes {X : Type 0} (tell : Opened → Row → List X) : Type 0 where
 module _ {X : Type 0} (tell : Opened → Row → List X) (passes : Passes tell) where
   -- what is told at the row of a paragraph
   abbrev at_par : Opened → Par → List X
-  at_par opened par = tell opened (bare_row par)
+  at_par opened par = tell opened (own_row par)
 
-  pars_told : (opened : Opened) (pars : List Par) (more : List Row) → told tell (None ∷ opened) (map bare_row pars ++ more) ≡ flat_map (at_par opened) pars ++ told tell (None ∷ opened) more
+  pars_told : (opened : Opened) (pars : List Par) (more : List Row) → told tell (None ∷ opened) (map own_row pars ++ more) ≡ flat_map (at_par opened) pars ++ told tell (None ∷ opened) more
   pars_told opened [] more = refl
   pars_told opened (par ∷ pars) more =
-      ap₂ (λ (front behind : List X). front ++ behind) (passes.within opened (bare_row par)) (pars_told opened pars more)
+      ap₂ (λ (front behind : List X). front ++ behind) (passes.within opened (own_row par)) (pars_told opened pars more)
       ∙ sym (append_assoc (at_par opened par) (flat_map (at_par opened) pars) (told tell (None ∷ opened) more))
 
   note_told : (opened : Opened) (note : Note) (more : List Row) → told tell opened (note_text note ++ more) ≡ flat_map (at_par opened) (out-Note note).pars ++ told tell opened more
   note_told opened note more =
-      ap (λ (front : List X). front ++ told tell (None ∷ opened) ((map bare_row (out-Note note).pars ++ row.End ∷ []) ++ more)) (passes.note opened)
-      ∙ ap (told tell (None ∷ opened)) (append_assoc (map bare_row (out-Note note).pars) (row.End ∷ []) more)
+      ap (λ (front : List X). front ++ told tell (None ∷ opened) ((map own_row (out-Note note).pars ++ row.End ∷ []) ++ more)) (passes.note opened)
+      ∙ ap (told tell (None ∷ opened)) (append_assoc (map own_row (out-Note note).pars) (row.End ∷ []) more)
       ∙ pars_told opened (out-Note note).pars (row.End ∷ more)
       ∙ ap (λ (front : List X). flat_map (at_par opened) (out-Note note).pars ++ (front ++ told tell opened more)) (passes.end (None ∷ opened))
 
