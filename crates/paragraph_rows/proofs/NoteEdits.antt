@@ -166,6 +166,36 @@ module _ (doc : Document) (par : ParId) (before : List Row) (head : ParHead) (it
         none_front (is_par par) (flat_map text_rows (flat_map note_of more)) there.after (none_back (is_par par) (flat_map text_rows (flat_map note_of some)) (flat_map text_rows (flat_map note_of more) ++ there.after) none),
       )
 
+  -- behind the row stand the rows of the notes before a place, which hold no notes
+  pub notes_before : (at : ℕ) → (some : List Note) × Each IsFlatNote some × (through_notes (note_count (take at items)) behind ≡ flat_map text_rows some)
+  notes_before at =
+      let whole : take at held ++ drop at held ≡ held = take-append-drop at held in
+      let count : note_count (take at items) ≡ note_count (take at held) = ap (λ (is : List Item). note_count (take at is)) (sym bares) ∙ count_taken at held in (
+        flat_map note_of (take at held),
+        (first_flat (take at held) (drop at held) whole).0,
+        ap (λ (n : ℕ). through_notes n behind) count ∙ through_first (take at held) (drop at held) whole,
+      )
+
+  -- and behind them those of the notes of a range
+  pub notes_between : (from to : ℕ) → from ≤ to → (some : List Note) × Each IsFlatNote some
+      × (through_notes (note_count (between from to items)) (behind_notes (note_count (take from items)) behind) ≡ flat_map text_rows some)
+  notes_between from to order =
+      let first : List Item = take from held in
+      let middle : List Item = between from to held in
+      let last : List Item = drop to held in
+      let whole : first ++ (middle ++ last) ≡ held = ap (λ (is : List Item). first ++ is) (sym (drop_split held from to order)) ∙ take-append-drop from held in
+      let gone : List Row = flat_map text_rows (flat_map note_of middle) in
+      let back : List Row = flat_map text_rows (flat_map note_of last) in
+      let counts : note_count (take from items) ≡ note_count first = ap (λ (is : List Item). note_count (take from is)) (sym bares) ∙ count_taken from held in
+      let count_gone : note_count (between from to items) ≡ note_count middle = ap (λ (is : List Item). note_count (between from to is)) (sym bares) ∙ count_between from to held in
+      let flat_middle = (cut_flat middle last (first_flat first (middle ++ last) whole).1).0 in (
+        flat_map note_of middle,
+        flat_middle,
+        ap₂ (λ (m n : ℕ). through_notes n (behind_notes m behind)) counts count_gone
+            ∙ ap (through_notes (note_count middle)) (behind_first first (middle ++ last) whole ∙ ap (λ (rows : List Row). rows ++ there.after) (cut_rows middle last) ∙ append_assoc gone back there.after)
+            ∙ through_all (flat_map note_of middle) (back ++ there.after) flat_middle,
+      )
+
   pub note_inserted : (next at : ℕ) (class : NoteClass) (id : List ℕ) → par.0 ≢ next
       → rows_of (edited_document next (InsertNote par at class id) doc).body ≡ before ++ with_note at class id next head items behind
   note_inserted next at class id other =

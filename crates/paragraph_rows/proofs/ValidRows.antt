@@ -68,7 +68,7 @@ flat_alone [] more none = refl
 flat_alone (par ∷ pars) more none =
     ap (λ (rows : List Row). has_flat_notes true ((rows ++ flat_map par_rows pars) ++ more)) (alone_rows par none.0) ∙ flat_alone pars more none.1
 
-flat_texts : (some : List Note) (more : List Row) → Each IsFlatNote some → has_flat_notes false (flat_map text_rows some ++ more) ≡ has_flat_notes false more
+pub flat_texts : (some : List Note) (more : List Row) → Each IsFlatNote some → has_flat_notes false (flat_map text_rows some ++ more) ≡ has_flat_notes false more
 flat_texts [] more flat = refl
 flat_texts (note ∷ some) more flat =
     ap (has_flat_notes false) (grouped note some more) ∙ flat_alone (out-Note note).pars (row.End ∷ (flat_map text_rows some ++ more)) flat.0 ∙ flat_texts some more flat.1
