@@ -22,7 +22,7 @@ use Rattle.edit_rules.specs.Blocks.{in_notes_of, within_block}
 use Rattle.node_array.specs.declared.row.Row.{Row}
 use Rattle.node_array.specs.declared.row.Row.TheVariants as row
 use Rattle.node_array.specs.Rows.{par_rows, block_rows, rows_of}
-use Rattle.container_rows.proofs.Spots.{times, times_both, Spot, Inner, spot_then, spot_behind, inner_then, inner_behind, one_in_all}
+use Rattle.container_rows.proofs.Spots.{own, times, times_both, Spot, Inner, spot_then, spot_behind, inner_then, inner_behind, one_in_all}
 use Rattle.container_rows.proofs.Parts.{text_rows, block_is, section_is, par_within, section_within}
 use Rattle.container_rows.proofs.Firsts.{by_test, each_part}
 use Rattle.container_rows.proofs.Tests.{block_notes, par_notes, test_is, section_test, par_here, par_other}
@@ -207,7 +207,7 @@ module _ (change : List Block → List Block) (number : ℕ) where
             (subst (λ (rows : List Row). Inner change number (start x ∷ (rows_of blocks ++ row.End ∷ [])) rows) (sym (ap block_rows within ∙ section_is (with_blocks x new)))
             (framed (start x) (rows_of blocks) (rows_of new) (container ks (subst (Each (Good change number)) (section_notes (with_blocks x blocks)) good) (sym count ∙ one))));
       } where
-        framed_times : (first : Row) (rows : List Row) → Rattle.container_rows.proofs.Spots.own number first ≡ 0 → times number (first ∷ (rows ++ row.End ∷ [])) ≡ times number rows
+        framed_times : (first : Row) (rows : List Row) → own number first ≡ 0 → times number (first ∷ (rows ++ row.End ∷ [])) ≡ times number rows
         framed_times first rows none = omega (arith, none, times_both number rows (row.End ∷ []))
 
   block_step : (x : Block-F Block Section) (y : Block-F Block-Known Section-Known) → map-Block Block-Known Section-Known Block Section (λ k. k.0) (λ k. k.0) y ≡ x → Known (roll-Block x)

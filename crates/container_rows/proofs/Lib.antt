@@ -6,3 +6,7 @@ pub mod Notes
 pub mod Containers
 pub mod Numbers
 pub mod Changed
+pub mod Ends
+pub mod Heads
+pub mod Split
+pub mod Join

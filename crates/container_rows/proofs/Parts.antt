@@ -15,7 +15,7 @@ use Rattle.doc_model.specs.declared.paragraph.What.TheOpen.{What-F, Par-F}
 use Rattle.doc_model.specs.declared.paragraph.What.TheViews.{out-roll-What, roll-out-Par, roll-out-Item, roll-out-What, roll-out-Note}
 use Rattle.doc_model.specs.declared.paragraph.What.TheFolds.{fold-roll-Item, fold-roll-What}
 use Rattle.edit_rules.specs.Places.{as_block}
-use Rattle.edit_rules.specs.Blocks.{in_note_of, in_notes_of, within_block}
+use Rattle.edit_rules.specs.Blocks.{in_note_of, in_notes_of, of_paragraphs, within_block}
 use Rattle.node_array.specs.declared.row.Row.{Row}
 use Rattle.node_array.specs.declared.row.Row.TheVariants as row
 use Rattle.node_array.specs.Rows.{par_rows, block_rows, rows_of}
@@ -108,7 +108,7 @@ pub changed_note : (change : List Par → List Par) (spans : List (List ℕ)) (n
 changed_note change spans note = simp out-roll-What
 
 -- blocks within which containers are changed
-pub par_within : (change : List Block → List Block) (par : Par) → within_block change (as_block par) ≡ as_block (in_notes_of (Rattle.edit_rules.specs.Blocks.of_paragraphs change) par)
+pub par_within : (change : List Block → List Block) (par : Par) → within_block change (as_block par) ≡ as_block (in_notes_of (of_paragraphs change) par)
 par_within change par = simp fold-roll-Block
 
 pub section_within : (change : List Block → List Block) (x : Section-F Block Section)

@@ -3,4 +3,4 @@
 
 mod laws;
 
-pub use laws::other_rows_stay;
+pub use laws::{joined_rows, other_rows_stay, split_rows};
