@@ -7,13 +7,14 @@ ghost use Rattle.doc_model.specs.declared.paragraph.ParHead.{ParHead};
 ghost use Rattle.doc_model.specs.declared.paragraph.ParId.{ParId};
 ghost use Rattle.edit_rules.specs.Places.{live_paragraph, item_count, is_in_note};
 ghost use Rattle.node_array.specs.declared.row.Row.{Row};
+ghost use Rattle.node_array.specs.Containers.{containers_of};
 ghost use Rattle.node_array.specs.Places.{is_par};
 ghost use Rattle.node_array.specs.Rows.{rows_of};
 ghost use Rattle.paragraph_rows.specs.Flat.{AreFlat};
 ghost use Rattle.paragraph_rows.specs.OwnRow.{own_row};
-ghost use Rattle.paragraph_rows.specs.Standing.{Stands};
+ghost use Rattle.paragraph_rows.specs.Standing.{AreApart, Stands};
 ghost use Rattle.row_edits.specs.Sound.{is_note_open};
-ghost use Rattle.row_checks.specs.NoteHeld.{is_held_in_note};
+ghost use Rattle.row_checks.specs.NoteHeld.{is_held_in_note, is_note};
 
 /// A paragraph is live where its number has a row, and that row has as many items as it.
 pub fn live_paragraphs_have_rows()
@@ -23,9 +24,12 @@ pub fn live_paragraphs_have_rows()
         → position (is_par par) (rows_of doc.body) ≡ Some at → slice_get (rows_of doc.body) at ≡ Some (Row.Par head items) → item_count doc par ≡ length items }
 {}
 
-/// A paragraph stands in a note where a note is open before its row.
+/// A paragraph stands in a note where a note is open before its row, so where its row's container is one.
 pub fn notes_are_open_round_rows()
     ensures held { (doc : Document) (par : ParId) → AreFlat (rows_of doc.body) → is_in_note doc par ≡ is_held_in_note par false (rows_of doc.body) }
     ensures round { (doc : Document) (par : ParId) (before : List Row) (one : Row) (behind : List Row) → AreFlat (rows_of doc.body)
         → Stands par (rows_of doc.body) before one behind → is_in_note doc par ≡ is_note_open false before }
+    ensures container { (doc : Document) (par : ParId) (at : ℕ) (one : Row) (container : Option ℕ) → AreFlat (rows_of doc.body) → AreApart (rows_of doc.body)
+        → position (is_par par) (rows_of doc.body) ≡ Some at → slice_get (rows_of doc.body) at ≡ Some one → slice_get (containers_of doc.body) at ≡ Some container
+        → is_in_note doc par ≡ is_note (rows_of doc.body) container }
 {}
