@@ -1,6 +1,6 @@
 //! The index of names.
 
-ghost use Rattle.std.specs.Prelude.{◌≡◌, ℕ, List, [], Option, Some, None, OnOk, OnErr};
+ghost use Rattle.std.specs.Prelude.{◌≡◌, ℕ, List, [], Option, Some, None, IfOk, OnOk, OnErr};
 ghost use Rattle.std.specs.Str.{bytes_eq};
 ghost use Rattle.indexmap.specs.IndexMap.{get, Updates};
 ghost use Rattle.doc_model.specs.declared.document.Document.{Document};
@@ -45,6 +45,22 @@ impl NameIndex {
             references: IndexMap::new(alloc),
             notes: IndexMap::new(alloc),
         }
+    }
+
+    /// An index of the same names.
+    pub fn copy(&self) -> Result<NameIndex, AllocError>
+        ensures { IfOk result (λ index. index ≡ self.now) }
+    {
+        let bookmarks = self.bookmarks.clone()?;
+        let sections = self.sections.clone()?;
+        let references = self.references.clone()?;
+        let notes = self.notes.clone()?;
+        Ok(NameIndex {
+            bookmarks,
+            sections,
+            references,
+            notes,
+        })
     }
 
     /// The paragraph that a name leads to, if there is one of this kind and name. It takes no memory.
