@@ -31,10 +31,10 @@ abbrev pub note_changed : (Par → Par) → Note → Note
 note_changed change note = roll-Note (record (out-Note note) { pars = map change (out-Note note).pars })
 
 -- a note without its paragraphs
-abbrev bare_note : Note → Note
+abbrev pub bare_note : Note → Note
 bare_note note = roll-Note (record (out-Note note) { pars = [] })
 
-note_bare : (note : Note) → (note_rows note).0 ≡ bare_note note
+pub note_bare : (note : Note) → (note_rows note).0 ≡ bare_note note
 note_bare note = ap (λ (n : Note). (note_rows n).0) (sym (roll-out-Note note)) ∙ ap (λ (pair : Note × List Row). pair.0) (note_opens (out-Note note))
 
 bare_changed : (change : Par → Par) (note : Note) → bare_note (note_changed change note) ≡ bare_note note

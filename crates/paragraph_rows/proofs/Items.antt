@@ -28,7 +28,7 @@ use Rattle.paragraph_rows.proofs.Opened.{item_of, item_is, bare_what, bare_item_
 bare_is : (item : Item) → bare item ≡ roll-Item (record { spans = (out-Item item).spans; what = (what_rows (out-Item item).what).0 })
 bare_is item = ap bare (sym (roll-out-Item item)) ∙ ap (λ (pair : Item × List Row). pair.0) (item_opens (out-Item item))
 
-spans_bare : (item : Item) → (out-Item (bare item)).spans ≡ (out-Item item).spans
+pub spans_bare : (item : Item) → (out-Item (bare item)).spans ≡ (out-Item item).spans
 spans_bare item = ap (λ (i : Item). (out-Item i).spans) (bare_is item)
 
 what_bare : (item : Item) → (out-Item (bare item)).what ≡ (what_rows (out-Item item).what).0
@@ -54,7 +54,7 @@ mark_what spans (What-F.Field field) = refl
 mark_what spans (What-F.Note note) = simp out-roll-What
 mark_what spans (What-F.Mark mark) = refl
 
-mark_bare : (item : Item) → mark_of (bare item) ≡ mark_of item
+pub mark_bare : (item : Item) → mark_of (bare item) ≡ mark_of item
 mark_bare item = ap (λ (i : Item). mark_of (bare i)) (sym (item_is item)) ∙ ap mark_of (bare_item_is (out-Item item).spans (out-What (out-Item item).what)) ∙ mark_what (out-Item item).spans (out-What (out-Item item).what) ∙ ap mark_of (item_is item)
 
 is_mark_what : (spans : List (List ℕ)) (what : What-F What Item Note Par) → is_mark (item_of spans (bare_what what)) ≡ is_mark (item_of spans what)

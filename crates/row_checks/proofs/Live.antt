@@ -34,7 +34,7 @@ use Rattle.paragraph_rows.proofs.FlatPars.{IsFlatNote, IsFlatPar, IsFlatBlock, f
 use Rattle.paragraph_rows.proofs.NoteRows.{alone_rows}
 
 -- the row, if it is that of a paragraph
-abbrev par_row : Row → List Row
+abbrev pub par_row : Row → List Row
 par_row (row.Start head) = []
 par_row row.End = []
 par_row (row.Par head items) = row.Par head items ∷ []
@@ -82,7 +82,7 @@ rows_section x known flat =
     ∙ ap (λ (pars : List Par). map own_row (flat_map with_notes pars)) (sym (section_block_paragraphs x))
 
 -- the rows of paragraphs are those of the paragraphs in reading order
-own_rows : (doc : Document) → AreFlat (rows_of doc.body) → flat_map par_row (rows_of doc.body) ≡ map own_row (paragraphs doc)
+pub own_rows : (doc : Document) → AreFlat (rows_of doc.body) → flat_map par_row (rows_of doc.body) ≡ map own_row (paragraphs doc)
 own_rows doc flat = rows_blocks doc.body (of_blocks Rows rows_par rows_section doc.body) (flat_pars doc.body flat)
 
 -- the first row of a number is that of a paragraph

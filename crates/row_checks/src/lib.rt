@@ -3,4 +3,6 @@
 
 mod laws;
 
-pub use laws::{live_paragraphs_have_rows, notes_are_open_round_rows};
+pub use laws::{
+    live_paragraphs_have_rows, notes_are_open_round_rows, protecting_sections_are_open,
+};
