@@ -1,0 +1,5 @@
+pub mod Chain
+pub mod Fits
+pub mod Heads
+pub mod HeadEdits
+pub mod Texts
