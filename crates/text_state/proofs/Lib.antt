@@ -3,3 +3,5 @@ pub mod NewStyle
 pub mod Gathered
 pub mod Followed
 pub mod Numbers
+pub mod Declared
+pub mod Copied

@@ -1,4 +1,7 @@
 -- The parts of a document other than its body, its default style and its styles.
+use Rattle.std.specs.Prelude.{ℕ, List, [], ◌∷◌, ◌++◌}
+use Rattle.doc_model.specs.declared.edit.DeclKind.{DeclKind}
+use Rattle.doc_model.specs.declared.edit.DeclKind.TheVariants as decl
 use Rattle.doc_model.specs.declared.document.Document.{Document}
 use Rattle.text_state.specs.declared.rest.RestParts.{RestParts}
 
@@ -14,3 +17,8 @@ rest_of doc = record {
   sequences = doc.sequences;
   counting = doc.counting;
 }
+
+-- the parts with one more declared name, the last of its kind
+abbrev pub with_name : DeclKind → List ℕ → RestParts → RestParts
+with_name decl.Sequence name rest = record rest { sequences = rest.sequences ++ name ∷ [] }
+with_name decl.Variable name rest = record rest { variables = rest.variables ++ name ∷ [] }

@@ -3,6 +3,8 @@
 
 mod bare;
 mod body_rows;
+mod document;
+mod laws;
 mod names;
 mod places;
 mod rest;
@@ -11,6 +13,7 @@ mod state;
 mod styles;
 
 pub use body_rows::array_of;
+pub use laws::names_are_declared_in_parts;
 pub use names::names_of_document;
 pub use rest::{Rest, RestParts};
 pub use state::TextState;

@@ -1,9 +1,9 @@
 //! The parts of a document that few edits change.
 
 ghost use Rattle.std.specs.Prelude.{◌≡◌, IfOk};
-ghost use Rattle.text_state.specs.RestOf.{rest_of};
+ghost use Rattle.text_state.specs.RestOf.{rest_of, with_name};
 
-use doc_model::{Document, List, ListStyle, Master, Name, NoteStart, PageLayout};
+use doc_model::{DeclKind, Document, List, ListStyle, Master, Name, NoteStart, PageLayout};
 use std::alloc::{AllocError, Global};
 use std::marker::Model;
 use std::sync::Arc;
@@ -27,6 +27,46 @@ pub struct RestParts {
     pub sequences: List<Name>,
     /// How footnotes are counted.
     pub counting: NoteStart,
+}
+
+impl RestParts {
+    pub(crate) fn copy(&self) -> Result<RestParts, AllocError>
+        ensures { IfOk result (λ copy. copy ≡ self.now) }
+    {
+        let lists = self.lists.copy()?;
+        let outline = self.outline.copy()?;
+        let layouts = self.layouts.copy()?;
+        let masters = self.masters.copy()?;
+        let variables = self.variables.copy()?;
+        let sequences = self.sequences.copy()?;
+        Ok(RestParts {
+            global: self.global,
+            lists,
+            outline,
+            layouts,
+            masters,
+            variables,
+            sequences,
+            counting: self.counting,
+        })
+    }
+
+    // The parts with one more declared name.
+    fn with_name(self, kind: DeclKind, name: Name) -> Result<RestParts, AllocError>
+        ensures { IfOk result (λ parts. parts ≡ with_name kind name self) }
+    {
+        let mut parts = self;
+        match kind {
+            DeclKind::Sequence => {
+                parts.sequences.push(name)?;
+                Ok(parts)
+            }
+            DeclKind::Variable => {
+                parts.variables.push(name)?;
+                Ok(parts)
+            }
+        }
+    }
 }
 
 /// These parts, shared by all states that have the same. Contracts see the parts.
@@ -87,6 +127,18 @@ impl Rest {
     {
         Ok(Rest {
             parts: Arc::try_clone(&self.parts)?,
+        })
+    }
+
+    /// The parts with one more declared name, the last of its kind.
+    pub fn with_declared(&self, kind: DeclKind, name: &Name) -> Result<Rest, AllocError>
+        ensures { IfOk result (λ rest. rest ≡ with_name kind name.now self.now) }
+    {
+        let name = name.copy()?;
+        let parts = self.parts.copy()?.with_name(kind, name)?;
+        let alloc = parts.lists.allocator();
+        Ok(Rest {
+            parts: Arc::new(alloc, parts)?,
         })
     }
 }

@@ -7,6 +7,7 @@ ghost use Rattle.text_state.specs.RestOf.{rest_of};
 ghost use Rattle.text_state.specs.State.{greatest_number, number_in, unedited};
 
 use crate::body_rows::array_of;
+use crate::document::document_of;
 use crate::names::names_of_document;
 use crate::rest::Rest;
 use crate::styles::styles_of;
@@ -101,6 +102,13 @@ impl TextState {
         ensures { result ≡ scanned self.now.document kind name.now }
     {
         self.names.find(kind, name)
+    }
+
+    /// The document, copied. It takes memory and time for the whole of it.
+    pub fn document(&self) -> Result<Document, AllocError>
+        ensures { IfOk result (λ doc. doc ≡ self.now.document) }
+    {
+        document_of(&self.rest, &self.styles, &self.rows)
     }
 
     /// An equal state, which has all in common with this one. It takes no memory, and is refused only where a count of
