@@ -1,5 +1,5 @@
 -- A change of a container from a paragraph on, among the rows of a body.
-use Rattle.std.proofs.Common.{◌≡◌, ℕ, Bool, true, cond, eqb, ◌||◌, List, [], ◌∷◌, ◌++◌, map, refl, ap, ap₂, sym, ◌∙◌, subst, arith, ⊎_elim, eq-eqb}
+use Rattle.std.proofs.Common.{◌≡◌, ℕ, ◌≤◌, Bool, true, cond, eqb, ◌||◌, List, [], ◌∷◌, ◌++◌, map, refl, ap, ap₂, sym, ◌∙◌, subst, arith, ⊎_elim, eq-eqb}
 use Rattle.std.specs.List.{flat_map, list_any, AllByRecursion as Each}
 use Rattle.std.proofs.lemmas.Bool.{or_right}
 use Rattle.doc_model.specs.declared.block.Block.{Block}
@@ -10,21 +10,20 @@ use Rattle.doc_model.specs.declared.paragraph.Note.{Note}
 use Rattle.doc_model.specs.declared.document.Document.{Document}
 use Rattle.doc_model.specs.Reading.{number_of, notes_of, block_paragraphs}
 use Rattle.doc_model.specs.Parts.{notes}
-use Rattle.doc_model.specs.Valid.{IsNote}
 use Rattle.edit_rules.specs.Places.{as_block, holds, note_container}
 use Rattle.edit_rules.specs.Blocks.{at_paragraph}
 use Rattle.node_array.specs.declared.row.Row.{Row}
 use Rattle.node_array.specs.declared.row.Row.TheVariants as row
 use Rattle.node_array.specs.Rows.{par_rows, rows_of}
-use Rattle.container_rows.specs.Standing.{IsApart, KeepsParagraphs, CanBeMade, AreBehindAll, IsChangedFrom}
+use Rattle.container_rows.specs.Standing.{IsApart, KeepsParagraphs, CanBeMade, AreBehindAll, IsChangedFrom, HoldsNoNotes}
 use Rattle.container_rows.proofs.Spots.{own, times, times_both, Spot, Inner}
 use Rattle.container_rows.proofs.Parts.{head_row, bare, text_rows, own_rows}
 use Rattle.container_rows.proofs.Tests.{block_notes, par_here}
-use Rattle.container_rows.proofs.Notes.{Good}
+use Rattle.container_rows.proofs.Notes.{Good, hold_none}
 use Rattle.container_rows.proofs.Containers.{twice, body_found}
 use Rattle.container_rows.proofs.Numbers.{at_most_once}
 
-all_good : (change : List Block → List Block) (number : ℕ) (some : List Note) → Each IsNote some → (list_any (λ note. holds number (note_container note)) some ≡ true → KeepsParagraphs change)
+all_good : (change : List Block → List Block) (number : ℕ) (some : List Note) → Each HoldsNoNotes some → (list_any (λ note. holds number (note_container note)) some ≡ true → KeepsParagraphs change)
     → Each (Good change number) some
 all_good change number [] are can = tt
 all_good change number (note ∷ some) are can =
@@ -86,17 +85,22 @@ module _ (change : List Block → List Block) (before : List Row) (head : ParHea
         notes = spot.notes;
       }
 
-pub changed_from : (change : List Block → List Block) (doc : Document) (before : List Row) (head : ParHead) (items : List Item) (rest : List Row)
-    → IsApart doc → CanBeMade change doc head.id → rows_of doc.body ≡ before ++ row.Par head items ∷ rest
+pub changed_when : (change : List Block → List Block) (doc : Document) (before : List Row) (head : ParHead) (items : List Item) (rest : List Row)
+    → times head.id.0 (rows_of doc.body) ≤ 1 → Each HoldsNoNotes (notes doc) → CanBeMade change doc head.id → rows_of doc.body ≡ before ++ row.Par head items ∷ rest
     → IsChangedFrom change before (row.Par head items ∷ rest) (rows_of (at_paragraph head.id change doc).body)
-changed_from change doc before head items rest apart can is =
+changed_when change doc before head items rest few valid can is =
     let number : ℕ = head.id.0 in
     let new : List Row = rows_of (at_paragraph head.id change doc).body in
     let one : times number (rows_of doc.body) ≡ 1 =
-    omega (arith, ap (times number) is, times_both number before (row.Par head items ∷ rest), own_here change before head items rest new, at_most_once number doc apart)
+    omega (arith, few, ap (times number) is, times_both number before (row.Par head items ∷ rest), own_here change before head items rest new)
     in
-    let good : Each (Good change number) (flat_map block_notes doc.body) = subst (Each (Good change number)) (twice notes_of block_paragraphs doc.body) (all_good change number (notes doc) apart.notes can) in
+    let good : Each (Good change number) (flat_map block_notes doc.body) = subst (Each (Good change number)) (twice notes_of block_paragraphs doc.body) (all_good change number (notes doc) valid can) in
     ⊎_elim
     (λ (spot : Spot change number (rows_of doc.body) new []). from_spot change before head items rest new (rows_of doc.body) [] one is tt spot)
     (λ (inner : Inner change number (rows_of doc.body) new). from_spot change before head items rest new (rows_of doc.body) (row.End ∷ inner.tail) one is tt inner.spot)
     (body_found change number doc.body good one)
+
+pub changed_from : (change : List Block → List Block) (doc : Document) (before : List Row) (head : ParHead) (items : List Item) (rest : List Row)
+    → IsApart doc → CanBeMade change doc head.id → rows_of doc.body ≡ before ++ row.Par head items ∷ rest
+    → IsChangedFrom change before (row.Par head items ∷ rest) (rows_of (at_paragraph head.id change doc).body)
+changed_from change doc before head items rest apart can is = changed_when change doc before head items rest (at_most_once head.id.0 doc apart) (hold_none (notes doc) apart.notes) can is

@@ -16,7 +16,7 @@ use Rattle.doc_model.specs.declared.paragraph.Note.{Note}
 use Rattle.doc_model.specs.declared.paragraph.What.TheOpen.{Par-F}
 use Rattle.doc_model.specs.declared.paragraph.What.TheViews.{out-roll-Par}
 use Rattle.doc_model.specs.Reading.{number_of, notes_of, block_paragraphs}
-use Rattle.doc_model.specs.Valid.{IsNote}
+use Rattle.container_rows.specs.Standing.{HoldsNoNotes}
 use Rattle.edit_rules.specs.Places.{as_block, is_paragraph}
 use Rattle.edit_rules.specs.Blocks.{in_notes_of, within_block}
 use Rattle.node_array.specs.declared.row.Row.{Row}
@@ -148,15 +148,15 @@ module _ (change : List Block → List Block) (number : ℕ) where
       (one_in_all change number Block-Known old new GoodBlock (λ k h. ap block_rows (k.1.none h)) (λ k g h. k.1.inner g.0 g.1 h) ks
       (good_blocks ks (each_part (Good change number) block_notes (blocks_in ks) good) other) (sym (ap (times number) old_is) ∙ one)))
 
-  valid_notes : (some : List Note) → Each (Good change number) some → Each IsNote some
+  valid_notes : (some : List Note) → Each (Good change number) some → Each HoldsNoNotes some
   valid_notes [] good = tt
   valid_notes (note ∷ some) good = (good.0.0, valid_notes some good.1)
 
-  valid_each : (blocks : List Block) → Each (λ block. Each (Good change number) (block_notes block)) blocks → Each (λ block. Each IsNote (block_notes block)) blocks
+  valid_each : (blocks : List Block) → Each (λ block. Each (Good change number) (block_notes block)) blocks → Each (λ block. Each HoldsNoNotes (block_notes block)) blocks
   valid_each [] good = tt
   valid_each (block ∷ blocks) good = (valid_notes (block_notes block) good.0, valid_each blocks good.1)
 
-  valid_blocks : (blocks : List Block) → Each (Good change number) (flat_map block_notes blocks) → Each (λ block. Each IsNote (block_notes block)) blocks
+  valid_blocks : (blocks : List Block) → Each (Good change number) (flat_map block_notes blocks) → Each (λ block. Each HoldsNoNotes (block_notes block)) blocks
   valid_blocks blocks good = valid_each blocks (each_part (Good change number) block_notes blocks good)
 
   -- the paragraph stands in the container of the blocks itself, or further within

@@ -8,7 +8,7 @@ use Rattle.doc_model.specs.declared.paragraph.What.{What, roll-What}
 use Rattle.doc_model.specs.declared.paragraph.Note.{Note, out-Note}
 use Rattle.doc_model.specs.declared.paragraph.What.TheOpen.{What-F}
 use Rattle.doc_model.specs.Reading.{note_of}
-use Rattle.doc_model.specs.Valid.{IsNote}
+use Rattle.container_rows.specs.Standing.{HoldsNoNotes}
 use Rattle.node_array.specs.declared.row.Row.{Row}
 use Rattle.node_array.specs.declared.row.Row.TheVariants as row
 use Rattle.node_array.specs.Rows.{par_rows}
@@ -63,7 +63,7 @@ through_bare (par ∷ pars) none count more =
       next n = omega arith
 
 abbrev Ends : Item → Type 0
-Ends item = Each IsNote (note_of item) → (count : ℕ) (more : List Row) → through_ends (length (note_of item) + count) (text_rows item ++ more) ≡ length (text_rows item) + through_ends count more
+Ends item = Each HoldsNoNotes (note_of item) → (count : ℕ) (more : List Row) → through_ends (length (note_of item) + count) (text_rows item ++ more) ≡ length (text_rows item) + through_ends count more
 
 none_more : (n : ℕ) → 0 + n ≡ n
 none_more n = omega arith
@@ -79,7 +79,7 @@ note_ends : (spans : List (List ℕ)) (note : Note) → Ends (roll-Item (record 
 note_ends spans note good count more =
     let item : Item = roll-Item (record { spans = spans; what = roll-What (What-F.Note note) }) in
     let pars : List Row = flat_map par_rows (out-Note note).pars in
-    let valid : IsNote note = (subst (Each IsNote) (note_alone spans note) good).0 in
+    let valid : HoldsNoNotes note = (subst (Each HoldsNoNotes) (note_alone spans note) good).0 in
     let rows : text_rows item ≡ row.NoteText ∷ (pars ++ row.End ∷ []) = ap (λ (p : Item × List Row). p.1) (note_item spans note) ∙ ap (λ (p : Note × List Row). p.1) (note_is note) in
     let one : length (note_of item) + count ≡ suc count = ap (λ (some : List Note). length some + count) (note_alone spans note) ∙ next count in
     let goes : through_ends (length (note_of item) + count) (text_rows item ++ more) ≡ through_ends (suc count) (pars ++ (row.End ∷ more)) + 1 =
@@ -101,11 +101,11 @@ ends_by spans (What-F.Mark mark) = no_end spans (What-F.Mark mark) tt
 item_ends : (item : Item) → Ends item
 item_ends = by_what Ends ends_by
 
-items_end : (items : List Item) → Each IsNote (flat_map note_of items) → (count : ℕ) (more : List Row)
+items_end : (items : List Item) → Each HoldsNoNotes (flat_map note_of items) → (count : ℕ) (more : List Row)
     → through_ends (note_count items + count) (flat_map text_rows items ++ more) ≡ length (flat_map text_rows items) + through_ends count more
 items_end [] good count more = no_rows count more
 items_end (item ∷ items) good count more =
-    let both = each_both IsNote (note_of item) (flat_map note_of items) good in
+    let both = each_both HoldsNoNotes (note_of item) (flat_map note_of items) good in
     let texts : List Row = flat_map text_rows items in
     let order : length (note_of item ++ flat_map note_of items) + count ≡ length (note_of item) + (note_count items + count) = omega (arith, length-append (note_of item) (flat_map note_of items)) in
     let goes : through_ends (length (note_of item ++ flat_map note_of items) + count) ((text_rows item ++ texts) ++ more) ≡ through_ends (length (note_of item) + (note_count items + count)) (text_rows item ++ (texts ++ more)) =
@@ -114,15 +114,15 @@ items_end (item ∷ items) good count more =
     omega (arith, goes, item_ends item both.0 (note_count items + count) (texts ++ more), items_end items both.1 count more, length-append (text_rows item) texts)
 
 -- so the rows behind the notes are found
-pub texts_end : (items : List Item) → Each IsNote (flat_map note_of items) → (more : List Row) → through_ends (note_count (map bare items)) (flat_map text_rows items ++ more) ≡ length (flat_map text_rows items)
+pub texts_end : (items : List Item) → Each HoldsNoNotes (flat_map note_of items) → (more : List Row) → through_ends (note_count (map bare items)) (flat_map text_rows items ++ more) ≡ length (flat_map text_rows items)
 texts_end items good more =
     let none : note_count (map bare items) ≡ note_count items + 0 = omega (arith, bare_count items) in
     ap (λ (n : ℕ). through_ends n (flat_map text_rows items ++ more)) none ∙ items_end items good 0 more ∙ done (length (flat_map text_rows items)) where
       done : (n : ℕ) → n + 0 ≡ n
       done n = omega arith
 
-pub taken_texts : (items : List Item) → Each IsNote (flat_map note_of items) → (more : List Row) → take (through_ends (note_count (map bare items)) (flat_map text_rows items ++ more)) (flat_map text_rows items ++ more) ≡ flat_map text_rows items
+pub taken_texts : (items : List Item) → Each HoldsNoNotes (flat_map note_of items) → (more : List Row) → take (through_ends (note_count (map bare items)) (flat_map text_rows items ++ more)) (flat_map text_rows items ++ more) ≡ flat_map text_rows items
 taken_texts items good more = take_at (flat_map text_rows items) more _ (sym (texts_end items good more))
 
-pub dropped_texts : (items : List Item) → Each IsNote (flat_map note_of items) → (more : List Row) → drop (through_ends (note_count (map bare items)) (flat_map text_rows items ++ more)) (flat_map text_rows items ++ more) ≡ more
+pub dropped_texts : (items : List Item) → Each HoldsNoNotes (flat_map note_of items) → (more : List Row) → drop (through_ends (note_count (map bare items)) (flat_map text_rows items ++ more)) (flat_map text_rows items ++ more) ≡ more
 dropped_texts items good more = drop_at (flat_map text_rows items) more _ (sym (texts_end items good more))

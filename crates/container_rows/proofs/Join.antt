@@ -13,14 +13,13 @@ use Rattle.doc_model.specs.declared.paragraph.Item.{Item}
 use Rattle.doc_model.specs.declared.edit.EditOp.TheVariants.{Join}
 use Rattle.doc_model.specs.declared.document.Document.{Document}
 use Rattle.doc_model.specs.Reading.{notes_of}
-use Rattle.doc_model.specs.Valid.{IsNote}
 use Rattle.edit_rules.specs.Places.{as_block}
 use Rattle.edit_rules.specs.Blocks.{with_items_of, join_first}
 use Rattle.edit_rules.specs.Edited.{edited_document}
 use Rattle.node_array.specs.declared.row.Row.{Row}
 use Rattle.node_array.specs.declared.row.Row.TheVariants as row
 use Rattle.node_array.specs.Rows.{block_rows, rows_of}
-use Rattle.container_rows.specs.Standing.{IsApart, KeepsParagraphs, AreBehindAll, IsChangedFrom}
+use Rattle.container_rows.specs.Standing.{IsApart, KeepsParagraphs, AreBehindAll, IsChangedFrom, HoldsNoNotes}
 use Rattle.container_rows.specs.Texts.{note_count, through_ends}
 use Rattle.container_rows.proofs.Parts.{head_row, bare, text_rows, rolled_rows, block_is, section_is}
 use Rattle.container_rows.proofs.Tests.{par_alone}
@@ -94,11 +93,11 @@ joined_rows par other blocks behind =
 
 module _ (head : ParHead) (items : List Item) (rest : List Row) (par : Par) (more : List Row) (own : Opened head items rest par more) where
   -- what stands behind the notes of a paragraph
-  pub notes_taken : Each IsNote (notes_of par) → take (through_ends (note_count items) rest) rest ≡ flat_map text_rows (out-Par par).items
+  pub notes_taken : Each HoldsNoNotes (notes_of par) → take (through_ends (note_count items) rest) rest ≡ flat_map text_rows (out-Par par).items
   notes_taken valid =
       ap₂ (λ (i : List Item) (rows : List Row). take (through_ends (note_count i) rows) rows) own.items_are own.rest_is ∙ taken_texts (out-Par par).items valid more
 
-  pub notes_dropped : Each IsNote (notes_of par) → drop (through_ends (note_count items) rest) rest ≡ more
+  pub notes_dropped : Each HoldsNoNotes (notes_of par) → drop (through_ends (note_count items) rest) rest ≡ more
   notes_dropped valid =
       ap₂ (λ (i : List Item) (rows : List Row). drop (through_ends (note_count i) rows) rows) own.items_are own.rest_is ∙ dropped_texts (out-Par par).items valid more
 

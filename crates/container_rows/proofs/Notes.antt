@@ -1,5 +1,5 @@
 -- A change that is made in the notes of paragraphs, from the paragraph of a number on.
-use Rattle.std.proofs.Common.{◌≡◌, ℕ, Bool, true, false, List, [], ◌∷◌, ◌++◌, map, take, drop, refl, ap, ap₂, sym, ◌∙◌, subst, arith, append-nil}
+use Rattle.std.proofs.Common.{◌≡◌, ℕ, Bool, true, false, List, [], ◌∷◌, ◌++◌, map, take, drop, refl, ap, ap₂, sym, ◌∙◌, subst, arith, append-nil, length}
 use Rattle.std.specs.Prelude.{if◌then◌else◌}
 use Rattle.std.specs.List.{flat_map, list_any, position_or_len, before_first, AllByRecursion as Each}
 use Rattle.std.proofs.lemmas.List.{take-map, drop-map, map-append}
@@ -14,14 +14,14 @@ use Rattle.doc_model.specs.declared.paragraph.What.TheOpen.{What-F, Note-F}
 use Rattle.doc_model.specs.declared.paragraph.What.TheViews.{out-roll-What, out-roll-Note, roll-out-Par, roll-out-Note}
 use Rattle.doc_model.specs.Reading.{note_of, notes_of}
 use Rattle.doc_model.specs.Parts.{what_of}
-use Rattle.doc_model.specs.Valid.{IsNote}
 use Rattle.edit_rules.specs.Places.{as_block, paragraph_of, is_paragraph, from_first, holds, note_container}
 use Rattle.edit_rules.specs.Blocks.{in_note_of, in_notes_of, of_paragraphs, from_paragraph}
 use Rattle.node_array.specs.declared.row.Row.{Row}
 use Rattle.node_array.specs.declared.row.Row.TheVariants as row
 use Rattle.node_array.specs.Rows.{par_rows, block_rows, rows_of}
 use Rattle.node_array.proofs.OneBody.{note_rows}
-use Rattle.container_rows.specs.Standing.{KeepsParagraphs}
+use Rattle.doc_model.specs.Valid.{IsNote}
+use Rattle.container_rows.specs.Standing.{KeepsParagraphs, HoldsNoNotes}
 use Rattle.container_rows.proofs.Spots.{times, times_both, Spot, Inner, spot_then, spot_behind, inner_behind, one_in_all}
 use Rattle.container_rows.proofs.Parts.{NoNote, plain_text, head_row, bare, text_rows, rolled_rows, own_rows, block_is, blocks_are, by_what, note_is, note_item, with_pars, changed_note}
 use Rattle.container_rows.proofs.Firsts.{First, first_found, cut_at_first, each_part, each_first}
@@ -45,33 +45,54 @@ no_note_by spans what other P here =
     let item : Item = roll-Item (record { spans = spans; what = roll-What what }) in
     subst (λ (rows : List Row). P rows (note_of item)) (sym (plain_text spans what other)) (subst (λ (notes : List Note). P [] notes) (sym (no_note_of spans what other)) here)
 
-no_text : (item : Item) → NoNote (what_of item) → text_rows item ≡ []
-no_text = by_what (λ item. NoNote (what_of item) → text_rows item ≡ []) (λ spans what other. plain_text spans what (subst NoNote (what_is spans what) other))
+pub note_alone : (spans : List (List ℕ)) (note : Note) → note_of (roll-Item (record { spans = spans; what = roll-What (What-F.Note note) })) ≡ note ∷ []
+note_alone spans note = simp out-roll-What
 
 no_note_at : (item : Item) → NoNote (what_of item) → note_of item ≡ []
 no_note_at = by_what (λ item. NoNote (what_of item) → note_of item ≡ []) (λ spans what other. no_note_of spans what (subst NoNote (what_is spans what) other))
-
-no_texts : (items : List Item) → Each (λ item. NoNote (what_of item)) items → flat_map text_rows items ≡ []
-no_texts [] other = refl
-no_texts (item ∷ items) other = ap₂ (λ a b. a ++ b) (no_text item other.0) (no_texts items other.1)
-
-all_bare : (pars : List Par) → Each (λ par. Each (λ item. NoNote (what_of item)) (out-Par par).items) pars → Each HasNoTexts pars
-all_bare [] other = tt
-all_bare (par ∷ pars) other = (no_texts (out-Par par).items other.0, all_bare pars other.1)
-
-pub bare_pars : (note : Note) → IsNote note → Each HasNoTexts (out-Note note).pars
-bare_pars note is = all_bare (out-Note note).pars is.1
 
 no_notes : (items : List Item) → Each (λ item. NoNote (what_of item)) items → flat_map note_of items ≡ []
 no_notes [] other = refl
 no_notes (item ∷ items) other = ap₂ (λ a b. a ++ b) (no_note_at item other.0) (no_notes items other.1)
 
-valid_pars : (pars : List Par) → Each (λ par. Each (λ item. NoNote (what_of item)) (out-Par par).items) pars → Each (λ block. Each IsNote (block_notes block)) (map as_block pars)
-valid_pars [] other = tt
-valid_pars (par ∷ pars) other = (subst (Each IsNote) (sym (par_notes par ∙ no_notes (out-Par par).items other.0)) tt, valid_pars pars other.1)
+none_held_in : (pars : List Par) → Each (λ par. Each (λ item. NoNote (what_of item)) (out-Par par).items) pars → Each (λ par. notes_of par ≡ []) pars
+none_held_in [] other = tt
+none_held_in (par ∷ pars) other = (no_notes (out-Par par).items other.0, none_held_in pars other.1)
 
-pub note_alone : (spans : List (List ℕ)) (note : Note) → note_of (roll-Item (record { spans = spans; what = roll-What (What-F.Note note) })) ≡ note ∷ []
-note_alone spans note = simp out-roll-What
+pub hold_none : (some : List Note) → Each IsNote some → Each HoldsNoNotes some
+hold_none [] are = tt
+hold_none (note ∷ some) are = (none_held_in (out-Note note).pars are.0.1, hold_none some are.1)
+
+-- their rows are none
+text_by : (spans : List (List ℕ)) (what : What-F What Item Note Par) → note_of (roll-Item (record { spans = spans; what = roll-What what })) ≡ [] → text_rows (roll-Item (record { spans = spans; what = roll-What what })) ≡ []
+text_by spans (What-F.Char c) none = plain_text spans (What-F.Char c) tt
+text_by spans What-F.Tab none = plain_text spans What-F.Tab tt
+text_by spans What-F.Break none = plain_text spans What-F.Break tt
+text_by spans (What-F.Field field) none = plain_text spans (What-F.Field field) tt
+text_by spans (What-F.Note note) none = absurd (let long = ap (length {A = Note}) (sym (note_alone spans note) ∙ none) in omega (arith, long))
+text_by spans (What-F.Mark mark) none = plain_text spans (What-F.Mark mark) tt
+
+no_text : (item : Item) → note_of item ≡ [] → text_rows item ≡ []
+no_text = by_what (λ item. note_of item ≡ [] → text_rows item ≡ []) text_by
+
+both_none : (some more : List Note) → some ++ more ≡ [] → (some ≡ []) × (more ≡ [])
+both_none [] more e = (refl, e)
+both_none (note ∷ some) more e = absurd (let long = ap (length {A = Note}) e in omega (arith, long))
+
+no_texts : (items : List Item) → flat_map note_of items ≡ [] → flat_map text_rows items ≡ []
+no_texts [] none = refl
+no_texts (item ∷ items) none = let both = both_none (note_of item) (flat_map note_of items) none in ap₂ (λ a b. a ++ b) (no_text item both.0) (no_texts items both.1)
+
+all_bare : (pars : List Par) → Each (λ par. notes_of par ≡ []) pars → Each HasNoTexts pars
+all_bare [] none = tt
+all_bare (par ∷ pars) none = (no_texts (out-Par par).items none.0, all_bare pars none.1)
+
+pub bare_pars : (note : Note) → HoldsNoNotes note → Each HasNoTexts (out-Note note).pars
+bare_pars note holds_none = all_bare (out-Note note).pars holds_none
+
+valid_pars : (pars : List Par) → Each (λ par. notes_of par ≡ []) pars → Each (λ block. Each HoldsNoNotes (block_notes block)) (map as_block pars)
+valid_pars [] none = tt
+valid_pars (par ∷ pars) none = (subst (Each HoldsNoNotes) (sym (par_notes par ∙ none.0)) tt, valid_pars pars none.1)
 
 module _ (change : List Block → List Block) (number : ℕ) where
   -- the change of a container
@@ -86,7 +107,7 @@ module _ (change : List Block → List Block) (number : ℕ) where
   here_cut blocks e =
       ap (λ (b : Bool). if b then before_first (is_paragraph number) blocks ++ change (from_first (is_paragraph number) blocks) else blocks) e
 
-  pub direct : (blocks : List Block) → Each (λ block. Each IsNote (block_notes block)) blocks → list_any (is_paragraph number) blocks ≡ true → Spot change number (rows_of blocks) (rows_of (cut blocks)) []
+  pub direct : (blocks : List Block) → Each (λ block. Each HoldsNoNotes (block_notes block)) blocks → list_any (is_paragraph number) blocks ≡ true → Spot change number (rows_of blocks) (rows_of (cut blocks)) []
   direct blocks valid e =
       let first : First (is_paragraph number) blocks = first_found (is_paragraph number) blocks e in
       let at : IsAt number first.x = paragraph_at number first.x first.passes in
@@ -97,7 +118,7 @@ module _ (change : List Block → List Block) (number : ℕ) where
         par = at.par;
         blocks = first.more;
         numbered = at.numbered;
-        notes = subst (Each IsNote) (ap block_notes at.is ∙ par_notes at.par) (each_first (λ block. Each IsNote (block_notes block)) (is_paragraph number) blocks first valid);
+        notes = subst (Each HoldsNoNotes) (ap block_notes at.is ∙ par_notes at.par) (each_first (λ block. Each HoldsNoNotes (block_notes block)) (is_paragraph number) blocks first valid);
         was =
             ap rows_of (sym (cut_at_first (is_paragraph number) blocks)) ∙ flat_map-append block_rows before (from_first (is_paragraph number) blocks)
             ∙ ap (λ (bs : List Block). rows_of before ++ rows_of bs) from
@@ -127,7 +148,7 @@ module _ (change : List Block → List Block) (number : ℕ) where
       in
       ap (λ (bs : List Block). map as_block (flat_map paragraph_of bs)) is ∙ ap (map as_block) (pars_back some) ∙ sym is
 
-  pars_spot : KeepsParagraphs change → (pars : List Par) → Each (λ block. Each IsNote (block_notes block)) (map as_block pars) → list_any (is_paragraph number) (map as_block pars) ≡ true
+  pars_spot : KeepsParagraphs change → (pars : List Par) → Each (λ block. Each HoldsNoNotes (block_notes block)) (map as_block pars) → list_any (is_paragraph number) (map as_block pars) ≡ true
       → Spot change number (flat_map par_rows pars) (flat_map par_rows (in_pars pars)) []
   pars_spot keeps pars valid e =
       let new : rows_of (cut (map as_block pars)) ≡ flat_map par_rows (in_pars pars) = ap rows_of (sym (kept keeps pars e)) ∙ blocks_are (in_pars pars) in
@@ -136,13 +157,13 @@ module _ (change : List Block → List Block) (number : ℕ) where
 
   -- what has to hold of a note
   abbrev pub Good : Note → Type 0
-  Good note = IsNote note × (holds number (note_container note) ≡ true → KeepsParagraphs change)
+  Good note = HoldsNoNotes note × (holds number (note_container note) ≡ true → KeepsParagraphs change)
 
   note_spot : (note : Note) → Good note → times number (flat_map par_rows (out-Note note).pars) ≡ 1
       → Spot change number (flat_map par_rows (out-Note note).pars) (flat_map par_rows (in_pars (out-Note note).pars)) []
   note_spot note good one =
       let held = some_held number (out-Note note).pars (bare_pars note good.0) (omega (arith, one)) in
-      pars_spot (good.1 (holds_is number (out-Note note).pars ∙ held)) (out-Note note).pars (valid_pars (out-Note note).pars good.0.1) held
+      pars_spot (good.1 (holds_is number (out-Note note).pars ∙ held)) (out-Note note).pars (valid_pars (out-Note note).pars good.0) held
 
   -- items
   pub record Changed (item : Item) : Type 0 where

@@ -16,14 +16,13 @@ use Rattle.doc_model.specs.declared.style.Style.{Style}
 use Rattle.doc_model.specs.declared.edit.EditOp.TheVariants.{Split}
 use Rattle.doc_model.specs.declared.document.Document.{Document}
 use Rattle.doc_model.specs.Reading.{note_of}
-use Rattle.doc_model.specs.Valid.{IsNote}
 use Rattle.edit_rules.specs.Places.{as_block}
 use Rattle.edit_rules.specs.Blocks.{following_place, first_half, second_half, with_style_of, split_first}
 use Rattle.edit_rules.specs.Edited.{edited_document}
 use Rattle.node_array.specs.declared.row.Row.{Row}
 use Rattle.node_array.specs.declared.row.Row.TheVariants as row
 use Rattle.node_array.specs.Rows.{par_rows, rows_of}
-use Rattle.container_rows.specs.Standing.{IsApart, KeepsParagraphs, IsChangedFrom}
+use Rattle.container_rows.specs.Standing.{IsApart, KeepsParagraphs, IsChangedFrom, HoldsNoNotes}
 use Rattle.container_rows.specs.Texts.{note_count, through_ends}
 use Rattle.container_rows.specs.Halves.{stated_next, with_style_in, second_head}
 use Rattle.container_rows.proofs.Parts.{head_row, bare, text_rows, rolled_rows, block_is}
@@ -65,17 +64,17 @@ module _ (styles : List Style) (next at : ℕ) where
   halved head second first last rest =
       row.Par head first ∷ (take (through_ends (note_count first) rest) rest ++ row.Par second last ∷ drop (through_ends (note_count first) rest) rest)
 
-  module _ (par : Par) (more : List Row) (valid : Each IsNote (flat_map note_of (out-Par par).items)) where
+  module _ (par : Par) (more : List Row) (valid : Each HoldsNoNotes (flat_map note_of (out-Par par).items)) where
     abbrev own_items : List Item
     own_items = (out-Par par).items
 
     cut_items : flat_map text_rows (take at own_items) ++ flat_map text_rows (drop at own_items) ≡ flat_map text_rows own_items
     cut_items = sym (flat_map-append text_rows (take at own_items) (drop at own_items)) ∙ ap (flat_map text_rows) (take-append-drop at own_items)
 
-    valid_first : Each IsNote (flat_map note_of (take at own_items))
-    valid_first = (each_both IsNote (flat_map note_of (take at own_items)) (flat_map note_of (drop at own_items)) valid_cut).0 where
-      valid_cut : Each IsNote (flat_map note_of (take at own_items) ++ flat_map note_of (drop at own_items))
-      valid_cut = subst (λ (notes : List Note). Each IsNote notes) (sym (sym (flat_map-append note_of (take at own_items) (drop at own_items)) ∙ ap (flat_map note_of) (take-append-drop at own_items))) valid
+    valid_first : Each HoldsNoNotes (flat_map note_of (take at own_items))
+    valid_first = (each_both HoldsNoNotes (flat_map note_of (take at own_items)) (flat_map note_of (drop at own_items)) valid_cut).0 where
+      valid_cut : Each HoldsNoNotes (flat_map note_of (take at own_items) ++ flat_map note_of (drop at own_items))
+      valid_cut = subst (λ (notes : List Note). Each HoldsNoNotes notes) (sym (sym (flat_map-append note_of (take at own_items) (drop at own_items)) ∙ ap (flat_map note_of) (take-append-drop at own_items))) valid
 
     halves : (second : ParHead) → halved (head_row par) second (take at (map bare own_items)) (drop at (map bare own_items)) (flat_map text_rows own_items ++ more)
         ≡ row.Par (head_row par) (map bare (take at own_items)) ∷ (flat_map text_rows (take at own_items) ++ row.Par second (map bare (drop at own_items)) ∷ (flat_map text_rows (drop at own_items) ++ more))

@@ -5,7 +5,7 @@ use Rattle.std.proofs.lemmas.Bool.{cases_eq}
 use Rattle.doc_model.specs.declared.block.Block.{Block}
 use Rattle.doc_model.specs.declared.paragraph.Par.{Par}
 use Rattle.doc_model.specs.Reading.{number_of, notes_of}
-use Rattle.doc_model.specs.Valid.{IsNote}
+use Rattle.container_rows.specs.Standing.{HoldsNoNotes}
 use Rattle.edit_rules.specs.Places.{as_block}
 use Rattle.node_array.specs.declared.row.Row.{Row}
 use Rattle.node_array.specs.declared.row.Row.TheVariants as row
@@ -32,7 +32,7 @@ pub record Spot (change : List Block → List Block) (number : ℕ) (old new beh
   pub par : Par
   pub blocks : List Block
   pub numbered : number_of par ≡ number
-  pub notes : Each IsNote (notes_of par)
+  pub notes : Each HoldsNoNotes (notes_of par)
   pub was : old ≡ front ++ (par_rows par ++ (rows_of blocks ++ behind))
   pub is : new ≡ front ++ (rows_of (change (as_block par ∷ blocks)) ++ behind)
 

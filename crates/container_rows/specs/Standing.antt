@@ -3,6 +3,7 @@ use Rattle.std.specs.Prelude.{◌≡◌, ◌≢◌, true, List, [], ◌∷◌, �
 use Rattle.std.specs.List.{AllByRecursion as Each}
 use Rattle.doc_model.specs.declared.block.Block.{Block}
 use Rattle.doc_model.specs.declared.paragraph.Par.{Par}
+use Rattle.doc_model.specs.declared.paragraph.Note.{Note, out-Note}
 use Rattle.doc_model.specs.declared.paragraph.ParId.{ParId}
 use Rattle.doc_model.specs.declared.document.Document.{Document}
 use Rattle.doc_model.specs.Reading.{paragraphs, number_of, notes_of}
@@ -13,6 +14,10 @@ use Rattle.edit_rules.specs.Blocks.{of_paragraphs}
 use Rattle.node_array.specs.declared.row.Row.{Row}
 use Rattle.node_array.specs.declared.row.Row.TheVariants as row
 use Rattle.node_array.specs.Rows.{par_rows, rows_of}
+
+-- the paragraphs of a note hold no notes
+abbrev pub HoldsNoNotes : Note → Type 0
+HoldsNoNotes note = Each (λ par. notes_of par ≡ []) (out-Note note).pars
 
 -- no two paragraphs of a document have one number, and no note holds a note
 pub record IsApart (doc : Document) : Type 0 where
@@ -42,4 +47,4 @@ pub record IsChangedFrom (change : List Block → List Block) (before from chang
   pub old : from ≡ par_rows par ++ (rows_of blocks ++ behind)
   pub new : changed ≡ before ++ (rows_of (change (as_block par ∷ blocks)) ++ behind)
   pub ends : AreBehindAll behind
-  pub notes : Each IsNote (notes_of par)
+  pub notes : Each HoldsNoNotes (notes_of par)

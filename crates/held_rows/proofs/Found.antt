@@ -14,7 +14,6 @@ use Rattle.doc_model.specs.declared.paragraph.What.{What, roll-What}
 use Rattle.doc_model.specs.declared.paragraph.Note.{Note, out-Note}
 use Rattle.doc_model.specs.declared.paragraph.What.TheOpen.{What-F}
 use Rattle.doc_model.specs.Reading.{number_of, note_of}
-use Rattle.doc_model.specs.Valid.{IsNote}
 use Rattle.edit_rules.specs.Places.{Held, WithContainers, with_containers, note_container, as_block, is_paragraph, holds}
 use Rattle.node_array.specs.declared.row.Row.{Row}
 use Rattle.node_array.specs.declared.row.Row.TheVariants as row
@@ -25,7 +24,7 @@ use Rattle.container_rows.proofs.Spots.{own, times, times_both}
 use Rattle.container_rows.proofs.Tests.{block_notes, par_notes, test_is, par_here, par_other, holds_is, some_held, none_held}
 use Rattle.container_rows.proofs.Notes.{bare_pars, no_note_by, note_alone}
 use Rattle.container_rows.proofs.Containers.{section_notes, block_known}
-use Rattle.container_rows.specs.Standing.{AreBehindAll}
+use Rattle.container_rows.specs.Standing.{AreBehindAll, HoldsNoNotes}
 use Rattle.held_rows.specs.HeldFrom.{held_of}
 use Rattle.held_rows.proofs.Stands.{par_containers, section_containers, pars_held, Stands, Within, holds_blocks, direct, stands_then, stands_behind, none_in_all, one_in_all}
 
@@ -47,16 +46,16 @@ module _ (number : ℕ) where
 
   pub record Knows (item : Item) : Type 0 where
     pub none : times number (text_rows item) ≡ 0 → list_any (holds number) (texts_in item) ≡ false
-    pub one : Each IsNote (note_of item) → times number (text_rows item) ≡ 1 → Within number (text_rows item) (texts_in item)
+    pub one : Each HoldsNoNotes (note_of item) → times number (text_rows item) ≡ 1 → Within number (text_rows item) (texts_in item)
 
   plain_knows : (spans : List (List ℕ)) (what : What-F What Item Note Par) → NoNote what → Knows (roll-Item (record { spans = spans; what = roll-What what }))
   plain_knows spans what plain =
       record {
         none = no_note_by spans what plain (λ rows notes. times number rows ≡ 0 → list_any (holds number) (map note_container notes) ≡ false) (λ h. refl);
-        one = no_note_by spans what plain (λ rows notes. Each IsNote notes → times number rows ≡ 1 → Within number rows (map note_container notes)) (λ good h. absurd (omega (arith, h)));
+        one = no_note_by spans what plain (λ rows notes. Each HoldsNoNotes notes → times number rows ≡ 1 → Within number rows (map note_container notes)) (λ good h. absurd (omega (arith, h)));
       }
 
-  note_stands : (note : Note) → IsNote note → times number (flat_map par_rows (out-Note note).pars) ≡ 1 → Within number (row.NoteText ∷ (flat_map par_rows (out-Note note).pars ++ row.End ∷ [])) (note_container note ∷ [])
+  note_stands : (note : Note) → HoldsNoNotes note → times number (flat_map par_rows (out-Note note).pars) ≡ 1 → Within number (row.NoteText ∷ (flat_map par_rows (out-Note note).pars ++ row.End ∷ [])) (note_container note ∷ [])
   note_stands note valid one =
       let pars : List Par = (out-Note note).pars in
       let held = some_held number pars (bare_pars note valid) (omega (arith, one)) in
@@ -81,7 +80,7 @@ module _ (number : ℕ) where
         one = λ good h.
             subst (λ (rs : List Row). Within number rs (texts_in item)) (sym rows)
             (subst (λ (notes : List Note). Within number (row.NoteText ∷ (flat_map par_rows pars ++ row.End ∷ [])) (map note_container notes)) (sym (note_alone spans note))
-            (note_stands note (subst (Each IsNote) (note_alone spans note) good).0 (sym count ∙ h)));
+            (note_stands note (subst (Each HoldsNoNotes) (note_alone spans note) good).0 (sym count ∙ h)));
       }
 
   knows_by : (spans : List (List ℕ)) (what : What-F What Item Note Par) → Knows (roll-Item (record { spans = spans; what = roll-What what }))
@@ -103,7 +102,7 @@ module _ (number : ℕ) where
   -- blocks
   pub record Known (block : Block) : Type 0 where
     pub none : times number (block_rows block) ≡ 0 → list_any (holds number) (within_of block) ≡ false
-    pub one : Each IsNote (block_notes block) → is_paragraph number block ≡ false → times number (block_rows block) ≡ 1 → Within number (block_rows block) (within_of block)
+    pub one : Each HoldsNoNotes (block_notes block) → is_paragraph number block ≡ false → times number (block_rows block) ≡ 1 → Within number (block_rows block) (within_of block)
 
   par_within : (par : Par) → within_of (as_block par) ≡ flat_map texts_in (out-Par par).items
   par_within par = ap (λ (w : WithContainers). w.within) (par_containers par) ∙ map_flat (out-Par par).items
@@ -119,11 +118,11 @@ module _ (number : ℕ) where
             (λ is_so. absurd (omega (arith, h, count, par_here number par is_so)))
             (λ other.
             ap (list_any (holds number)) (par_within par)
-            ∙ none_in_all number Item text_rows texts_in (λ item. Each IsNote (note_of item)) (λ item. (item_knows item).none) (λ item. (item_knows item).one) items (sym (par_other number par other) ∙ sym count ∙ h));
+            ∙ none_in_all number Item text_rows texts_in (λ item. Each HoldsNoNotes (note_of item)) (λ item. (item_knows item).none) (λ item. (item_knows item).one) items (sym (par_other number par other) ∙ sym count ∙ h));
         one = λ good other h.
             let texts : Within number (flat_map text_rows items) (flat_map texts_in items) =
-            one_in_all number Item text_rows texts_in (λ item. Each IsNote (note_of item)) (λ item. (item_knows item).none) (λ item. (item_knows item).one) items
-            (each_part IsNote note_of items (subst (Each IsNote) (par_notes par) good)) (sym (par_other number par (sym (test_is number par) ∙ other)) ∙ sym count ∙ h)
+            one_in_all number Item text_rows texts_in (λ item. Each HoldsNoNotes (note_of item)) (λ item. (item_knows item).none) (λ item. (item_knows item).one) items
+            (each_part HoldsNoNotes note_of items (subst (Each HoldsNoNotes) (par_notes par) good)) (sym (par_other number par (sym (test_is number par) ∙ other)) ∙ sym count ∙ h)
             in
             subst (λ (rows : List Row). Within number rows (within_of (as_block par))) (sym (block_is par ∙ own_rows par))
             (subst (λ (cs : List Held). Within number (first ++ flat_map text_rows items) cs) (sym (par_within par))
@@ -146,9 +145,9 @@ module _ (number : ℕ) where
   inner k = within_of k.0
 
   abbrev GoodBlock : Block-Known → Type 0
-  GoodBlock k = Each IsNote (block_notes k.0) × (is_paragraph number k.0 ≡ false)
+  GoodBlock k = Each HoldsNoNotes (block_notes k.0) × (is_paragraph number k.0 ≡ false)
 
-  good_blocks : (ks : List Block-Known) → Each (λ block. Each IsNote (block_notes block)) (blocks_in ks) → list_any (is_paragraph number) (blocks_in ks) ≡ false → Each GoodBlock ks
+  good_blocks : (ks : List Block-Known) → Each (λ block. Each HoldsNoNotes (block_notes block)) (blocks_in ks) → list_any (is_paragraph number) (blocks_in ks) ≡ false → Each GoodBlock ks
   good_blocks [] good none = tt
   good_blocks (k ∷ ks) good none =
       by_test (is_paragraph number k.0)
@@ -178,7 +177,7 @@ module _ (number : ℕ) where
     by_behind (row.Par head items ∷ more) ends stands = absurd ends
     by_behind (row.NoteText ∷ more) ends stands = absurd ends
 
-  pub container : (ks : List Block-Known) → Each IsNote (flat_map block_notes (blocks_in ks)) → times number (rows_of (blocks_in ks)) ≡ 1
+  pub container : (ks : List Block-Known) → Each HoldsNoNotes (flat_map block_notes (blocks_in ks)) → times number (rows_of (blocks_in ks)) ≡ 1
       → Found (rows_of (blocks_in ks)) (map held_of (blocks_in ks) ∷ flat_map within_of (blocks_in ks))
   container ks good one =
       let blocks : List Block = blocks_in ks in
@@ -189,7 +188,7 @@ module _ (number : ℕ) where
       (λ is_so. record { behind = []; ends = tt; stands = direct number blocks others is_so })
       (λ not_it.
       let it : Within number (flat_map old ks) (flat_map inner ks) =
-      one_in_all number Block-Known old inner GoodBlock (λ k. k.1.none) (λ k g. k.1.one g.0 g.1) ks (good_blocks ks (each_part IsNote block_notes blocks good) not_it) (sym (ap (times number) rows_are) ∙ one)
+      one_in_all number Block-Known old inner GoodBlock (λ k. k.1.none) (λ k g. k.1.one g.0 g.1) ks (good_blocks ks (each_part HoldsNoNotes block_notes blocks good) not_it) (sym (ap (times number) rows_are) ∙ one)
       in
       let there : Stands number (rows_of blocks) others (row.End ∷ it.tail) =
       subst (λ (rows : List Row). Stands number rows others (row.End ∷ it.tail)) (sym rows_are)
@@ -216,7 +215,7 @@ module _ (number : ℕ) where
             (ap (list_any (holds number)) (flat_map-map within_of (λ (k : Block-Known). k.0) ks)
             ∙ none_in_all number Block-Known old inner GoodBlock (λ k. k.1.none) (λ k g. k.1.one g.0 g.1) ks (sym (ap (times number) (flat_map-map block_rows (λ (k : Block-Known). k.0) ks)) ∙ (sym count ∙ h)));
         one = λ good other h.
-            let it : Within number (rows_of blocks ++ row.End ∷ []) containers = found_then (rows_of blocks) containers (container ks (subst (Each IsNote) (section_notes whole) good) (sym count ∙ h)) in
+            let it : Within number (rows_of blocks ++ row.End ∷ []) containers = found_then (rows_of blocks) containers (container ks (subst (Each HoldsNoNotes) (section_notes whole) good) (sym count ∙ h)) in
             subst (λ (rows : List Row). Within number rows (within_of block)) (sym (section_is whole))
             (subst (λ (cs : List Held). Within number (start ∷ (rows_of blocks ++ row.End ∷ [])) cs) (sym (section_within whole))
             (record { tail = it.tail; stands = stands_behind number (rows_of blocks ++ row.End ∷ []) containers (row.End ∷ it.tail) (start ∷ []) [] refl it.stands }));
@@ -244,8 +243,8 @@ module _ (number : ℕ) where
   known_again [] = refl
   known_again (block ∷ body) = ap (λ (bs : List Block). block ∷ bs) (known_again body)
 
-  pub body_found : (body : List Block) → Each IsNote (flat_map block_notes body) → times number (rows_of body) ≡ 1 → Found (rows_of body) (map held_of body ∷ flat_map within_of body)
+  pub body_found : (body : List Block) → Each HoldsNoNotes (flat_map block_notes body) → times number (rows_of body) ≡ 1 → Found (rows_of body) (map held_of body ∷ flat_map within_of body)
   body_found body good one =
       let is = known_again body in
       subst (λ (bs : List Block). Found (rows_of bs) (map held_of bs ∷ flat_map within_of bs)) is
-      (container (with_known body) (subst (λ (bs : List Block). Each IsNote (flat_map block_notes bs)) (sym is) good) (ap (λ (bs : List Block). times number (rows_of bs)) is ∙ one))
+      (container (with_known body) (subst (λ (bs : List Block). Each HoldsNoNotes (flat_map block_notes bs)) (sym is) good) (ap (λ (bs : List Block). times number (rows_of bs)) is ∙ one))

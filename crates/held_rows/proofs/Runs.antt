@@ -9,13 +9,12 @@ use Rattle.doc_model.specs.declared.paragraph.ParHead.{ParHead}
 use Rattle.doc_model.specs.declared.paragraph.Item.{Item}
 use Rattle.doc_model.specs.declared.document.Document.{Document}
 use Rattle.doc_model.specs.Reading.{number_of, notes_of}
-use Rattle.doc_model.specs.Valid.{IsNote}
 use Rattle.edit_rules.specs.Places.{as_block, is_paragraph, through_first}
 use Rattle.edit_rules.specs.Blocks.{at_paragraph}
 use Rattle.node_array.specs.declared.row.Row.{Row}
 use Rattle.node_array.specs.declared.row.Row.TheVariants as row
 use Rattle.node_array.specs.Rows.{par_rows, block_rows, rows_of}
-use Rattle.container_rows.specs.Standing.{IsApart, AreBehindAll, IsChangedFrom}
+use Rattle.container_rows.specs.Standing.{IsApart, AreBehindAll, IsChangedFrom, HoldsNoNotes}
 use Rattle.container_rows.proofs.Firsts.{First, first_found, cut_at_first}
 use Rattle.container_rows.proofs.Spots.{own, times, times_both}
 use Rattle.container_rows.proofs.Parts.{head_row, bare, text_rows, own_rows, block_is}
@@ -53,14 +52,14 @@ pub record Run (number : ℕ) (blocks : List Block) (inside : List Row) (other :
   pub after_is : after_first (is_paragraph number) blocks ≡ rest
   pub inside_is : inside ≡ rows_of front
   pub opened : Opened other others more par (rows_of rest ++ behind)
-  pub notes : Each IsNote (notes_of par)
+  pub notes : Each HoldsNoNotes (notes_of par)
 
 one_row : (doc : Document) (before from : List Row) (number : ℕ) → IsApart doc → rows_of doc.body ≡ before ++ from → times number from ≤ 1
 one_row doc before from number apart is = omega (arith, at_most_once number doc apart, ap (times number) is, times_both number before from)
 
 -- the notes of the paragraph of a row hold none
 valid_notes : (doc : Document) (before : List Row) (head : ParHead) (items : List Item) (rest : List Row) (par : Par) (blocks : List Block) (behind : List Row) → IsApart doc → AreBehindAll behind
-    → rows_of doc.body ≡ before ++ row.Par head items ∷ rest → row.Par head items ∷ rest ≡ par_rows par ++ (rows_of blocks ++ behind) → Each IsNote (notes_of par)
+    → rows_of doc.body ≡ before ++ row.Par head items ∷ rest → row.Par head items ∷ rest ≡ par_rows par ++ (rows_of blocks ++ behind) → Each HoldsNoNotes (notes_of par)
 unfolding head_or
 valid_notes doc before head items rest par blocks behind apart ends is from =
     let it : IsChangedFrom (λ bs. bs) before (row.Par head items ∷ rest) (rows_of (at_paragraph head.id (λ bs. bs) doc).body) =
@@ -68,7 +67,7 @@ valid_notes doc before head items rest par blocks behind apart ends is from =
     in
     let same = one_tail (as_block it.par ∷ it.blocks) (as_block par ∷ blocks) it.behind behind it.ends ends (first_block it.par it.blocks it.behind ∙ (sym it.old ∙ (from ∙ sym (first_block par blocks behind)))) in
     let block : as_block it.par ≡ as_block par = ap (head_or (as_block par)) same.0 in
-    subst (Each IsNote) (sym (par_notes it.par) ∙ ap block_notes block ∙ par_notes par) it.notes
+    subst (Each HoldsNoNotes) (sym (par_notes it.par) ∙ ap block_notes block ∙ par_notes par) it.notes
 
 pub run_to : (doc : Document) (before from : List Row) (blocks : List Block) (behind inside : List Row) (other : ParHead) (others : List Item) (more : List Row) → IsApart doc → AreBehindAll behind
     → rows_of doc.body ≡ before ++ from → from ≡ rows_of blocks ++ behind → from ≡ inside ++ row.Par other others ∷ more → list_any (is_paragraph other.id.0) blocks ≡ true

@@ -31,7 +31,7 @@ pub section_containers : (x : Section-F Block Section) → with_containers (roll
     ≡ record { held = None; within = map (λ (w : WithContainers). w.held) (map with_containers x.blocks) ∷ flat_map (λ (w : WithContainers). w.within) (map with_containers x.blocks) }
 section_containers x = simp (fold-roll-Block, fold-roll-Section)
 
-section_none : (section : Section) → held_of (roll-Block (Block-F.Section section)) ≡ None
+pub section_none : (section : Section) → held_of (roll-Block (Block-F.Section section)) ≡ None
 section_none section =
     ap (λ (s : Section). held_of (roll-Block (Block-F.Section s))) (sym (roll-out-Section section)) ∙ ap (λ (w : WithContainers). w.held) (section_containers (out-Section section))
 
@@ -65,7 +65,7 @@ module _ (number : ℕ) where
   holds_blocks [] = refl
   holds_blocks (block ∷ blocks) = ap₂ (λ (a b : Bool). a || b) (held_test block) (holds_blocks blocks)
 
-  same_place : (blocks : List Block) → position_or_len (is_held number) (map held_of blocks) ≡ position_or_len (is_paragraph number) blocks
+  pub same_place : (blocks : List Block) → position_or_len (is_held number) (map held_of blocks) ≡ position_or_len (is_paragraph number) blocks
   same_place [] = refl
   same_place (block ∷ blocks) =
       ap₂ (λ (b : Bool) (n : ℕ). cond (not b) (1 + n) 0) (held_test block) (same_place blocks)
