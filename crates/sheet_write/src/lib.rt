@@ -15,8 +15,8 @@ pub use laws::part_pieces;
 pub use layouts::push_layout;
 pub use lists::{push_list_style, push_outline};
 pub use parts::{
-    has_style, push_automatic_part, push_layouts, push_list_styles, push_style_among, push_styles,
-    push_styles_part,
+    has_style, is_among, push_automatic_part, push_layouts, push_list_styles, push_style_among,
+    push_styles, push_styles_part,
 };
 pub use states::states_something;
 pub use styles::{push_default_style, push_properties, push_style};

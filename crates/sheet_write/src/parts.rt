@@ -17,7 +17,7 @@ use doc_model::{ListStyle, PageLayout, Props, Style};
 use std::alloc::AllocError;
 
 /// Whether a style is among the automatic ones, or among the others.
-fn is_among(style: &Style, automatic: bool) -> bool
+pub fn is_among(style: &Style, automatic: bool) -> bool
     ensures { result ≡ is_among automatic style.now }
 {
     if automatic { style.auto } else { !style.auto }

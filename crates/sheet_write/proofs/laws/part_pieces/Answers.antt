@@ -1,3 +1,4 @@
+use Rattle.std.proofs.Common.{refl}
 use Rattle.sheet_write.proofs.HeldLemmas.{part_text}
 use Rattle.sheet_write.proofs.PartLemmas.{among-cons}
 use Rattle.sheet_write.proofs.laws.part_pieces.Goals as goal
@@ -7,3 +8,9 @@ returns-clause-part c = part_text
 
 pub returns-clause-style : goal.returns-clause-style
 returns-clause-style c = among-cons
+
+pub returns-clause-styles : goal.returns-clause-styles
+returns-clause-styles c = λ doc. refl
+
+pub returns-clause-automatic : goal.returns-clause-automatic
+returns-clause-automatic c = λ doc. refl
