@@ -1,0 +1,2 @@
+pub mod StyleLemmas
+pub mod SheetLemmas
