@@ -1,7 +1,7 @@
 -- The rows of a page as they are printed, and the printed page.
-use Rattle.std.specs.Prelude.{ℕ, List, [], ◌∷◌, ◌++◌, map, codes, decimal, slice_get, Option, Some, None}
+use Rattle.std.specs.Prelude.{ℕ, ◌-◌, List, [], ◌∷◌, ◌++◌, map, codes, decimal, slice_get, Option, Some, None}
 use Rattle.std.specs.List.{flat_map}
-use Rattle.std.specs.Option.{option_and_then}
+use Rattle.std.specs.Option.{option_and_then, option_map}
 use Rattle.std.specs.Str.{encode_utf8_all}
 use Rattle.doc_model.specs.declared.page.Page.{Page}
 use Rattle.doc_model.specs.declared.page_layout.Master.{Master}
@@ -36,6 +36,10 @@ printed_rows masters pages index page = map (header_row pages index page) (heade
 -- the page of an index, ready to be printed
 abbrev pub page_of : List Master → List PageBody → ℕ → PageBody → Page
 page_of masters pages index page = record { index = index; number = page.number; rows = printed_rows masters pages index page }
+
+-- the page of an index, from 1, ready to be printed, if there is one
+abbrev pub page_at : List Master → List PageBody → ℕ → Option Page
+page_at masters pages n = option_map (page_of masters pages n) (slice_get pages (n - 1))
 
 -- a page of so many, as it is printed
 abbrev pub page_bytes : Page → ℕ → List ℕ

@@ -1,0 +1,12 @@
+pub mod Spots
+pub mod Parts
+pub mod Firsts
+pub mod Tests
+pub mod Notes
+pub mod Containers
+pub mod Numbers
+pub mod Changed
+pub mod Ends
+pub mod Heads
+pub mod Split
+pub mod Join

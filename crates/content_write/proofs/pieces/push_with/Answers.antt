@@ -1,0 +1,17 @@
+use Rattle.std.proofs.Common.{[], ◌∷◌, List, codes}
+use Rattle.std.specs.List.{flat_map}
+use Rattle.std.specs.Str.{chars}
+use Rattle.std.specs.String.{string_bytes}
+use Rattle.markup_nodes.specs.declared.words.Attr.{Attr}
+use Rattle.tree_text.specs.Writing.{attr_text, tag_text}
+use Rattle.written_model.specs.Elements.{attribute}
+use Rattle.value_write.proofs.ChainLemmas.{three}
+use Rattle.value_write.proofs.ElementLemmas.{empty_one}
+use Rattle.content_write.proofs.pieces.push_with.Goals as goal
+
+pub returns : goal.returns
+returns c =
+    let tag = chars c.args.tag.now in
+    let attrs : List Attr = attribute (chars c.args.name.now) (chars c.args.value.now) ∷ [] in
+    three c.push_empty_end.result (chars (string_bytes c.push_empty_end.new.out)) (chars (string_bytes c.push_text.new.out)) (chars (string_bytes c.push_name.new.out)) (chars (string_bytes c.args.out.now))
+    (tag_text tag []) (flat_map attr_text attrs) (codes "/>") c.in_ok-push_name.ensures c.in_ok-push_text.ensures c.push_empty_end.ensures (empty_one tag attrs)

@@ -1,0 +1,2 @@
+pub mod HeldFrom
+pub mod Wrapping

@@ -1,0 +1,4 @@
+pub mod AnyLemmas
+pub mod Reordered
+pub mod Found
+pub mod Sections

@@ -1,0 +1,12 @@
+pub mod Lists
+pub mod Blocks
+pub mod Opened
+pub mod FlatPars
+pub mod Changed
+pub mod Items
+pub mod Instances
+pub mod Standing
+pub mod Located
+pub mod NoteRows
+pub mod NoteEdits
+pub mod ValidRows

@@ -1,0 +1,5 @@
+pub mod Live
+pub mod NoteHeld
+pub mod NoteOpen
+pub mod Placed
+pub mod Guarded

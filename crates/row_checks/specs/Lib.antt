@@ -1,0 +1,2 @@
+pub mod NoteHeld
+pub mod Guarded

@@ -1,0 +1,4 @@
+pub mod Splices
+pub mod Distinct
+pub mod Kept
+pub mod NoteKept

@@ -1,0 +1,4 @@
+pub mod Sections
+pub mod Counts
+pub mod Longest
+pub mod Names

@@ -1,0 +1,31 @@
+-- The end of the tag, the levels and the end of the element.
+use Rattle.std.proofs.Common.{◌≡◌, ◌++◌, ℕ, List, map, OnOk, codes, sym, ap, ◌∙◌, subst, true, false}
+use Rattle.std.specs.Prelude.{not}
+use Rattle.std.specs.Str.{chars}
+use Rattle.std.specs.String.{string_bytes}
+use Rattle.markup_nodes.specs.Node.{Node}
+use Rattle.markup_nodes.specs.declared.tree.Elem.{Elem}
+use Rattle.spelling_model.specs.Spelling.{is_there}
+use Rattle.tree_text.specs.Writing.{end_text, content_text}
+use Rattle.written_model.specs.Styles.{level_element}
+use Rattle.value_write.proofs.ChainLemmas.{three}
+use Rattle.sheet_write.proofs.HeldLemmas.{held_none, held_some}
+use Rattle.sheet_write.proofs.ThereLemmas.{there-map, there-length}
+use Rattle.sheet_write.proofs.lists.push_held_levels.Goals as goal
+
+pub returns-then-is_empty : goal.returns-then-is_empty
+unfolding chars
+returns-then-is_empty c =
+    let tag = codes "text:list-style" in
+    let nodes : List (Node Elem) = map level_element c.args.levels.now in
+    let none : is_there nodes ≡ false = there-map level_element c.args.levels.now ∙ (sym (there-length c.args.levels.now) ∙ ap not (sym c.is_empty.ensures ∙ c.if-is_empty.true)) in
+    subst (λ (text : List ℕ). OnOk c.push_empty_end.result (chars (string_bytes c.push_empty_end.new.out) ≡ chars (string_bytes c.args.out.now) ++ text)) (held_none tag nodes none) c.push_empty_end.ensures
+
+pub returns : goal.returns
+unfolding chars
+returns c =
+    let tag = codes "text:list-style" in
+    let nodes : List (Node Elem) = map level_element c.args.levels.now in
+    let some : is_there nodes ≡ true = there-map level_element c.args.levels.now ∙ (sym (there-length c.args.levels.now) ∙ ap not (sym c.is_empty.ensures ∙ c.if-is_empty.false)) in
+    three c.push_end.result (chars (string_bytes c.push_end.new.out)) (chars (string_bytes c.push_levels.new.out)) (chars (string_bytes c.push_tag_end.new.out)) (chars (string_bytes c.args.out.now))
+    (codes ">") (content_text nodes) (end_text tag) c.in_ok-push_tag_end.ensures c.in_ok-push_levels.ensures c.push_end.ensures (held_some tag nodes some)
