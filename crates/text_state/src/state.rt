@@ -1,10 +1,12 @@
 //! The state of a document that is edited.
 
 ghost use Rattle.std.specs.Prelude.{◌≡◌, IfOk, fold, max};
+ghost use Rattle.std.specs.Arc.{arc_value};
 ghost use Rattle.doc_model.specs.Valid.{IsValid};
-ghost use Rattle.name_index.specs.Scan.{scanned};
+ghost use Rattle.name_index.specs.Names.{Agree};
+ghost use Rattle.name_index.specs.Scan.{scanned, names_of};
 ghost use Rattle.text_state.specs.RestOf.{rest_of};
-ghost use Rattle.text_state.specs.State.{greatest_number, number_in, unedited};
+ghost use Rattle.text_state.specs.State.{document_of, greatest_number, number_in, unedited};
 
 use crate::body_rows::array_of;
 use crate::document::document_of;
@@ -102,6 +104,66 @@ impl TextState {
         ensures { result ≡ scanned self.now.document kind name.now }
     {
         self.names.find(kind, name)
+    }
+
+    /// The index of the names. It takes no memory.
+    pub fn names(&self) -> &Arc<NameIndex>
+        ensures { Agree (arc_value result.now) (names_of self.now.document) }
+    {
+        &self.names
+    }
+
+    /// The state with other rows, with an index of the names of the document that they make, and with another next number.
+    pub fn with_body(
+        &self,
+        rows: NodeArray,
+        names: Arc<NameIndex>,
+        next: u64,
+    ) -> Result<TextState, AllocError>
+        requires names { Agree (arc_value names) (names_of (record self.now.document { body = rows })) }
+        ensures { IfOk result (λ state. state ≡ record { document = record self.now.document { body = rows }; next = next }) }
+    {
+        let styles = self.styles.share()?;
+        let rest = self.rest.share()?;
+        Ok(TextState {
+            rows,
+            styles,
+            names,
+            rest,
+            next,
+        })
+    }
+
+    /// The state with another default style and other styles.
+    pub fn with_styles(&self, styles: StyleTree) -> Result<TextState, AllocError>
+        ensures { IfOk result (λ state. state ≡ record self.now { document = record self.now.document { defaults = styles.defaults; styles = styles.styles } }) }
+    {
+        let rows = self.rows.share()?;
+        let names = Arc::try_clone(&self.names)?;
+        let rest = self.rest.share()?;
+        Ok(TextState {
+            rows,
+            styles,
+            names,
+            rest,
+            next: self.next,
+        })
+    }
+
+    /// The state with other parts that are neither its body nor its styles.
+    pub fn with_rest(&self, rest: Rest) -> Result<TextState, AllocError>
+        ensures { IfOk result (λ state. state ≡ record self.now { document = document_of rest (record { defaults = self.now.document.defaults; styles = self.now.document.styles }) self.now.document.body }) }
+    {
+        let rows = self.rows.share()?;
+        let styles = self.styles.share()?;
+        let names = Arc::try_clone(&self.names)?;
+        Ok(TextState {
+            rows,
+            styles,
+            names,
+            rest,
+            next: self.next,
+        })
     }
 
     /// The document, copied. It takes memory and time for the whole of it.
