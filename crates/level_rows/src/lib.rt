@@ -1,0 +1,6 @@
+//! What containers hold, told from rows.
+#![tactic(auto)]
+
+mod laws;
+
+pub use laws::held_is_told;
