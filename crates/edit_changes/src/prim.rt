@@ -80,6 +80,6 @@ impl Prim {
         let next = state.next().max(self.after.next());
         let rows = self.after.rows().share()?;
         let names = Arc::try_clone(self.after.names())?;
-        self.after.with_body(rows, names, next)
+        self.after.with_body(rows, names, self.after.counts(), next)
     }
 }
