@@ -1,0 +1,12 @@
+//! Why an edit of a text state is refused, one function a cause.
+#![tactic(auto)]
+
+mod ends;
+mod levels;
+mod live;
+mod ranges;
+
+pub use ends::{item_count, past_end};
+pub use levels::bad_level;
+pub use live::{is_live, no_paragraph};
+pub use ranges::bad_range_of_items;
