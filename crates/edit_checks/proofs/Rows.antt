@@ -62,7 +62,7 @@ none_counted doc body par same =
     let P : List Block → Type 0 = λ rows. AreFlat (rows_of rows) → None ≡ position (is_par par) (rows_of rows) → 0 ≡ item_count doc par in
     subst P same (λ flat none. ap (λ (live : Option Par). option_map_or (λ one. length (items_of one)) live 0) (sym (absent_row doc par flat (sym none))))
 
-is_own : (par : ParId) (rows : List Row) (at : ℕ) (one : Row) → Some at ≡ position (is_par par) rows → slice_get rows at ≡ Some one → is_par par one ≡ true
+pub is_own : (par : ParId) (rows : List Row) (at : ℕ) (one : Row) → Some at ≡ position (is_par par) rows → slice_get rows at ≡ Some one → is_par par one ≡ true
 is_own par rows at one found there =
     ap (is_par par) (sym (get_or_from_slice_get rows at one row.End there)) ∙ (position-Some (is_par par) rows at row.End (sym found)).1
 

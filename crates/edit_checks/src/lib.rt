@@ -2,11 +2,15 @@
 #![tactic(auto)]
 
 mod ends;
+mod guards;
 mod levels;
 mod live;
 mod ranges;
+mod typed;
 
 pub use ends::{item_count, past_end};
+pub use guards::protected_paragraph;
 pub use levels::bad_level;
 pub use live::{is_live, no_paragraph};
 pub use ranges::bad_range_of_items;
+pub use typed::bad_char;
