@@ -1,10 +1,11 @@
 //! Protected sections round paragraphs.
 
-ghost use Rattle.std.specs.Prelude.{◌≡◌, ◌<◌, ◌≢◌, [], ◌∷◌, false, length, slice_get, IfOk};
+ghost use Rattle.std.specs.Prelude.{◌≡◌, ◌<◌, ◌≢◌, false, length, slice_get, IfOk};
 ghost use Rattle.doc_model.specs.declared.document.Document.{Document};
 ghost use Rattle.doc_model.specs.declared.edit.EditOp.{EditOp};
+ghost use Rattle.edit_checks.specs.Alone.{GuardsAlone};
 ghost use Rattle.edit_rules.specs.Places.{live_paragraph};
-ghost use Rattle.edit_rules.specs.Refusals.{guarded_paragraphs, protected};
+ghost use Rattle.edit_rules.specs.Refusals.{protected};
 ghost use Rattle.node_array.specs.Rows.{rows_of};
 ghost use Rattle.node_array.specs.declared.row.Row.{Row};
 ghost use Rattle.paragraph_rows.specs.Flat.{AreFlat};
@@ -22,7 +23,7 @@ use std::alloc::AllocError;
 pub fn protected_paragraph(rows: &NodeArray, par: ParId) -> Result<Option<Refusal>, AllocError>
     requires flat { AreFlat (rows_of rows.now) }
     requires apart { AreApart (rows_of rows.now) }
-    ensures { IfOk result (λ why. (doc : Document) (op : EditOp) → doc.body ≡ rows.now → live_paragraph doc par ≢ None → guarded_paragraphs doc op ≡ par.0 ∷ [] → why ≡ protected doc op) }
+    ensures { IfOk result (λ why. (doc : Document) (op : EditOp) → doc.body ≡ rows.now → live_paragraph doc par ≢ None → GuardsAlone doc op par → why ≡ protected doc op) }
 {
     match rows.row_of(par) {
         None => Ok(None),
