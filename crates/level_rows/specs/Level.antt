@@ -1,5 +1,5 @@
 -- What a container holds, told from rows.
-use Rattle.std.specs.Prelude.{ℕ, ◌+◌, ◌-◌, ◌==◌, if◌then◌else◌, Bool, false, List, [], ◌∷◌, ◌++◌, Option, Some, None}
+use Rattle.std.specs.Prelude.{ℕ, ◌+◌, ◌-◌, ◌==◌, if◌then◌else◌, Bool, true, false, List, [], ◌∷◌, ◌++◌, Option, Some, None}
 use Rattle.std.specs.Option.{option_map_or}
 use Rattle.node_array.specs.declared.row.Row.{Row}
 use Rattle.node_array.specs.declared.row.Row.TheVariants as row
@@ -19,3 +19,8 @@ held_in depth (row.NoteText ∷ rows) = held_in (depth + 1) rows
 -- whether this is the paragraph of a number
 abbrev pub is_number : ℕ → Option ℕ → Bool
 is_number number held = option_map_or (λ other. other == number) held false
+
+-- whether what is held begins with two paragraphs
+abbrev pub begin_two : List (Option ℕ) → Bool
+begin_two (Some one ∷ Some other ∷ rest) = true
+begin_two held = false

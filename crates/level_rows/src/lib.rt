@@ -3,4 +3,4 @@
 
 mod laws;
 
-pub use laws::held_is_told;
+pub use laws::{held_is_told, togetherness_is_told};

@@ -5,6 +5,8 @@ ghost use Rattle.std.specs.Arc.{arc_value};
 ghost use Rattle.doc_model.specs.Valid.{IsValid};
 ghost use Rattle.name_index.specs.Names.{Agree};
 ghost use Rattle.name_index.specs.Scan.{scanned, names_of};
+ghost use Rattle.node_array.specs.Rows.{rows_of};
+ghost use Rattle.row_counts.specs.Counts.{counts_of};
 ghost use Rattle.text_state.specs.RestOf.{rest_of};
 ghost use Rattle.text_state.specs.State.{document_of, greatest_number, number_in, unedited};
 
@@ -16,29 +18,34 @@ use crate::styles::styles_of;
 use doc_model::{Document, Name, ParId};
 use name_index::{NameIndex, NameKind};
 use node_array::{NodeArray, Row};
+use row_counts::Counts;
 use std::alloc::{AllocError, Global};
 use std::marker::Model;
 use std::sync::Arc;
 use style_tree::StyleTree;
 
 /// A document that is edited, with the next paragraph number: the body as rows, the styles as a tree, the other parts
-/// shared, and an index of the names, which always agrees with the document.
+/// shared, an index of the names, which always agrees with the document, and the counts of the rows.
 #[derive(Drop)]
 pub struct TextState {
     rows: NodeArray,
     styles: StyleTree,
     names: Arc<NameIndex>,
+    counts: Counts,
     rest: Rest,
     next: u64,
 }
 
 impl Model for TextState {
+    ghost use Rattle.std.specs.Prelude.{◌≡◌};
     ghost use Rattle.std.specs.Arc.{arc_value};
     ghost use Rattle.std.specs.Coded.{codes};
     ghost use Rattle.doc_model.specs.contracts.document.Document as contract;
     ghost use Rattle.edit_rules.specs.Edited.{Edited};
     ghost use Rattle.name_index.specs.Names.{Agree};
     ghost use Rattle.name_index.specs.Scan.{names_of};
+    ghost use Rattle.node_array.specs.Rows.{rows_of};
+    ghost use Rattle.row_counts.specs.Counts.{counts_of};
     ghost use Rattle.text_state.specs.State.{document_of};
 
     ghost Value = { Edited };
@@ -47,7 +54,7 @@ impl Model for TextState {
 
     ghost view = { λ state. record { document = document_of state.rest state.styles state.rows; next = state.next } };
 
-    ghost invariant = { λ state. Agree (arc_value state.names) (names_of (document_of state.rest state.styles state.rows)) };
+    ghost invariant = { λ state. Agree (arc_value state.names) (names_of (document_of state.rest state.styles state.rows)) × (state.counts ≡ counts_of (rows_of state.rows)) };
 }
 
 impl TextState {
@@ -59,12 +66,14 @@ impl TextState {
         let rows = array_of(alloc, doc.body.get())?;
         let styles = styles_of(alloc, &doc.defaults, doc.styles.get())?;
         let names = Arc::new(alloc, names_of_document(alloc, doc)?)?;
+        let counts = Counts::of_array(&rows)?;
         let rest = Rest::of(alloc, doc)?;
         let next = u64::from(greatest_number(&rows)) + 1;
         Ok(TextState {
             rows,
             styles,
             names,
+            counts,
             rest,
             next,
         })
@@ -113,13 +122,23 @@ impl TextState {
         &self.names
     }
 
-    /// The state with other rows, with an index of the names of the document that they make, and with another next number.
+    /// How many paragraphs, items and sections there are. It takes no memory.
+    pub fn counts(&self) -> Counts
+        ensures { result ≡ counts_of (rows_of self.now.document.body) }
+    {
+        self.counts
+    }
+
+    /// The state with other rows, with an index of the names of the document that they make, with the counts of the rows,
+    /// and with another next number.
     pub fn with_body(
         &self,
         rows: NodeArray,
         names: Arc<NameIndex>,
+        counts: Counts,
         next: u64,
     ) -> Result<TextState, AllocError>
+        requires counts { counts ≡ counts_of (rows_of rows) }
         requires names { Agree (arc_value names) (names_of (record self.now.document { body = rows })) }
         ensures { IfOk result (λ state. state ≡ record { document = record self.now.document { body = rows }; next = next }) }
     {
@@ -129,6 +148,7 @@ impl TextState {
             rows,
             styles,
             names,
+            counts,
             rest,
             next,
         })
@@ -145,6 +165,7 @@ impl TextState {
             rows,
             styles,
             names,
+            counts: self.counts,
             rest,
             next: self.next,
         })
@@ -161,6 +182,7 @@ impl TextState {
             rows,
             styles,
             names,
+            counts: self.counts,
             rest,
             next: self.next,
         })
@@ -186,6 +208,7 @@ impl TextState {
             rows,
             styles,
             names,
+            counts: self.counts,
             rest,
             next: self.next,
         })

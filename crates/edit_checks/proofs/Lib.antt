@@ -1,0 +1,5 @@
+pub mod Rows
+pub mod Firsts
+pub mod Places
+pub mod Open
+pub mod Refused
