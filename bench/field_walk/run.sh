@@ -8,7 +8,7 @@ top=$(cd "$here/../.." && pwd)
 work=$(mktemp -d)
 trap 'rm -rf "$work"' EXIT
 mkdir -p "$work/crates/fields/src"
-for crate in doc_model field_model number_text run_text field_walk; do
+for crate in doc_model field_model number_text page_lookup run_text field_walk; do
     mkdir -p "$work/crates/$crate"
     for part in src specs proofs; do
         if [ -d "$top/crates/$crate/$part" ]; then
@@ -17,6 +17,6 @@ for crate in doc_model field_model number_text run_text field_walk; do
     done
 done
 cp "$here/main.txt" "$work/crates/fields/src/main.rt"
-grep -E '^(doc_model|field_model|number_text|run_text|field_walk):' "$top/crates.txt" >"$work/crates.txt"
-printf 'fields: doc_model field_walk run_text sqlite_items\n' >>"$work/crates.txt"
+grep -E '^(doc_model|field_model|number_text|page_lookup|run_text|field_walk):' "$top/crates.txt" >"$work/crates.txt"
+printf 'fields: doc_model field_walk page_lookup run_text sqlite_items\n' >>"$work/crates.txt"
 cd "$work/crates/fields" && rt run

@@ -1,29 +1,19 @@
 //! Page numbers, by a page table.
 ghost use Rattle.std.specs.Prelude.{◌≡◌, ◌++◌, OnOk};
-ghost use Rattle.field_model.specs.Shown.{page_of, page_at, page_text, page_number_text, page_count_text, select_pages};
+ghost use Rattle.field_model.specs.Shown.{page_at, page_text, page_number_text, page_count_text, select_pages};
 ghost use Rattle.field_model.specs.Cut.{cut};
 
 use crate::texts::push_nothing;
-use doc_model::{Format, PageAdjust, PageTable, ParId, Select};
+use doc_model::{Format, PageAdjust, Select};
 use number_text::{CutText, push_number};
+use page_lookup::IndexedTable;
 use sqlite_items::at;
 use std::alloc::AllocError;
-
-// The index of a paragraph's page, from 1, if it has one.
-pub(crate) fn page_of(table: &PageTable, par: ParId) -> Option<u32>
-    ensures { result ≡ page_of table.now par.0 }
-{
-    let id = par.0;
-    match table.pars.get().iter().find(|entry| entry.par.0 == id) {
-        Some(entry) => Some(entry.page),
-        None => None,
-    }
-}
 
 // Adds the number of the page of an index, from 1, where there is such a page.
 pub(crate) fn push_page(
     out: &mut CutText,
-    table: &PageTable,
+    table: &IndexedTable,
     format: Format,
     index: u64,
 ) -> Result<(), AllocError>
@@ -32,7 +22,7 @@ pub(crate) fn push_page(
     if index == 0 {
         return push_nothing(out);
     }
-    match at(table.pages.get(), (index - 1) as usize) {
+    match at(table.table().pages.get(), (index - 1) as usize) {
         Some(entry) => push_number(out, format, entry.number as u64),
         None => push_nothing(out),
     }
@@ -52,7 +42,7 @@ fn select_pages(select: Select) -> i64
 // Adds what a page number field shows in a paragraph on a page, from 1.
 pub(crate) fn push_page_number(
     out: &mut CutText,
-    table: &PageTable,
+    table: &IndexedTable,
     page: Option<u32>,
     select: Select,
     adjust: PageAdjust,
@@ -72,7 +62,7 @@ pub(crate) fn push_page_number(
 // Adds the number of the page of an index that may be below 0.
 fn push_sum(
     out: &mut CutText,
-    table: &PageTable,
+    table: &IndexedTable,
     format: Format,
     index: i64,
 ) -> Result<(), AllocError>
@@ -87,14 +77,14 @@ fn push_sum(
 // Adds what a page count field shows in a paragraph on a page.
 pub(crate) fn push_page_count(
     out: &mut CutText,
-    table: &PageTable,
+    table: &IndexedTable,
     page: Option<u32>,
     format: Format,
 ) -> Result<(), AllocError>
     ensures { OnOk result (out.new ≡ cut (out.old ++ page_count_text table.now page format)) }
 {
     match page {
-        Some(_) => push_number(out, format, table.pages.len() as u64),
+        Some(_) => push_number(out, format, table.table().pages.len() as u64),
         None => push_nothing(out),
     }
 }

@@ -7,13 +7,14 @@ ghost use Rattle.std.specs.Prelude.{Some};
 ghost use Rattle.field_walk.specs.Holds.{HoldsEvents};
 ghost use Rattle.field_model.specs.Cut.{cut};
 
-use crate::pages::{page_of, push_page};
+use crate::pages::push_page;
 use crate::spots::{is_before, one_more};
 use crate::texts::push_nothing;
 use crate::walk::Walk;
-use doc_model::{ChapterShow, Format, Name, NoteClass, PageTable, RefForm, SeqForm};
+use doc_model::{ChapterShow, Format, Name, NoteClass, RefForm, SeqForm};
 use field_model::{ParPlace, SequenceTarget, Spot, Target};
 use number_text::{CutText, push_number};
+use page_lookup::IndexedTable;
 use sqlite_items::at;
 use std::alloc::AllocError;
 
@@ -22,7 +23,7 @@ impl Walk {
     fn push_page_form(
         &self,
         out: &mut CutText,
-        table: &PageTable,
+        table: &IndexedTable,
         target: Target,
     ) -> Result<(), AllocError>
         ensures { (all : List Event) → HoldsEvents self.now all → OnOk result (out.new ≡ cut (out.old ++ page_form all table.now target)) }
@@ -57,7 +58,7 @@ impl Walk {
     pub(crate) fn push_bookmark(
         &self,
         out: &mut CutText,
-        table: &PageTable,
+        table: &IndexedTable,
         here: Spot,
         name: &Name,
         form: RefForm,
@@ -100,7 +101,7 @@ impl Walk {
     pub(crate) fn push_sequence(
         &self,
         out: &mut CutText,
-        table: &PageTable,
+        table: &IndexedTable,
         here: Spot,
         name: &Name,
         form: SeqForm,
@@ -117,7 +118,7 @@ impl Walk {
     fn push_found(
         &self,
         out: &mut CutText,
-        table: &PageTable,
+        table: &IndexedTable,
         here: Spot,
         field: &SequenceTarget,
         form: SeqForm,
@@ -148,7 +149,7 @@ impl Walk {
     pub(crate) fn push_note(
         &self,
         out: &mut CutText,
-        table: &PageTable,
+        table: &IndexedTable,
         here: Spot,
         id: &Name,
         form: RefForm,
@@ -194,10 +195,10 @@ pub(crate) fn push_note_number(
 }
 
 // Adds the number of the page of a paragraph, where it has one.
-fn push_own_page(out: &mut CutText, table: &PageTable, par: &ParPlace) -> Result<(), AllocError>
+fn push_own_page(out: &mut CutText, table: &IndexedTable, par: &ParPlace) -> Result<(), AllocError>
     ensures { OnOk result (out.new ≡ cut (out.old ++ own_page table.now par.now)) }
 {
-    match page_of(table, par.id) {
+    match table.page_of(par.id) {
         Some(index) => push_page(out, table, Format::Digits, index as u64),
         None => push_nothing(out),
     }

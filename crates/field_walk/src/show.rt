@@ -8,14 +8,15 @@ ghost use Rattle.field_walk.specs.Seen.{HasSeen};
 ghost use Rattle.field_model.specs.declared.gathered.ParPlace.{ParPlace};
 ghost use Rattle.field_model.specs.Cut.{cut};
 
-use crate::pages::{page_of, push_page_count, push_page_number};
+use crate::pages::{push_page_count, push_page_number};
 use crate::refs::push_note_number;
 use crate::spots::one_more;
 use crate::texts::push_text;
 use crate::walk::Walk;
-use doc_model::{Field, Item, List, NoteClass, PageTable, What};
+use doc_model::{Field, Item, List, NoteClass, What};
 use field_model::{ParPlace, Shown, Spot};
 use number_text::CutText;
+use page_lookup::IndexedTable;
 use run_text::RunText;
 use std::alloc::AllocError;
 
@@ -44,7 +45,7 @@ impl Walk {
         &self,
         par: &ParPlace,
         items: &RunText<Item>,
-        table: &PageTable,
+        table: &IndexedTable,
     ) -> Result<List<Shown>, AllocError>
         ensures { (all : List Event) → HoldsEvents self.now all → IfOk result (λ texts. texts ≡ shown_in all table.now par.now items.now) }
     {
@@ -59,7 +60,7 @@ impl Walk {
     pub(crate) fn show_items(
         &self,
         par: &ParPlace,
-        table: &PageTable,
+        table: &IndexedTable,
         seen: Seen,
         items: &[Item],
         shown: &mut List<Shown>,
@@ -79,7 +80,7 @@ impl Walk {
     fn show_item(
         &self,
         par: &ParPlace,
-        table: &PageTable,
+        table: &IndexedTable,
         seen: Seen,
         item: &Item,
         shown: &mut List<Shown>,
@@ -132,7 +133,7 @@ impl Walk {
         &self,
         out: &mut CutText,
         par: &ParPlace,
-        table: &PageTable,
+        table: &IndexedTable,
         here: Spot,
         field: &Field,
     ) -> Result<(), AllocError>
@@ -149,16 +150,9 @@ impl Walk {
                 select,
                 adjust,
                 format,
-            } => push_page_number(
-                out,
-                table,
-                page_of(table, par.id),
-                *select,
-                *adjust,
-                *format,
-            ),
+            } => push_page_number(out, table, table.page_of(par.id), *select, *adjust, *format),
             Field::PageCount { format } => {
-                push_page_count(out, table, page_of(table, par.id), *format)
+                push_page_count(out, table, table.page_of(par.id), *format)
             }
             Field::BookRef { name, form } => self.push_bookmark(out, table, here, name, *form),
             Field::SeqRef { name, form } => self.push_sequence(out, table, here, name, *form),

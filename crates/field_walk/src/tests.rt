@@ -6,6 +6,7 @@ use doc_model::{
     PageTable, ParHead, ParId, ParPage, Select, Spans, Txt, What,
 };
 use field_model::{Gathered, Shown};
+use page_lookup::IndexedTable;
 use run_text::RunText;
 use sqlite_items::{Boxed, Items};
 use std::alloc::{AllocError, Global};
@@ -139,7 +140,7 @@ fn gather(alloc: Global, walk: &mut Walk, line: &Line) -> Result<(), AllocError>
     walk.gather_one(place, &head, &label, &items)
 }
 
-fn table_of(alloc: Global, case: &Case) -> Result<PageTable, AllocError> {
+fn table_of(alloc: Global, case: &Case) -> Result<IndexedTable, AllocError> {
     let mut pages = List::new(alloc);
     for index in 0..case.pages {
         pages.push(PageEntry {
@@ -154,7 +155,7 @@ fn table_of(alloc: Global, case: &Case) -> Result<PageTable, AllocError> {
             page: line.page,
         })?;
     }
-    Ok(PageTable { pages, pars })
+    IndexedTable::of(alloc, PageTable { pages, pars })
 }
 
 // The text of the next field or note, or '!' where none is told for the item.
@@ -197,7 +198,7 @@ fn row_of(alloc: Global, items: &[Item], shown: &[Shown]) -> Result<String, Allo
 fn is_shown(
     alloc: Global,
     walk: &Walk,
-    table: &PageTable,
+    table: &IndexedTable,
     line: &Line,
 ) -> Result<bool, AllocError> {
     let items = items_of(alloc, line.parts)?;

@@ -6,11 +6,12 @@ ghost use Rattle.field_walk.specs.Holds.{Holds, HoldsEvents};
 
 use crate::groups::{Groups, Texts};
 use crate::runs::Runs;
-use doc_model::{Item, Label, List, PageTable, ParHead, ParId, Txt};
+use doc_model::{Item, Label, List, ParHead, ParId, Txt};
 use field_model::{
     Gathered, NoteTarget, ParPlace, SequenceTarget, Shown, Spot, Target, VariableSet,
 };
 use indexmap::IndexMap;
+use page_lookup::IndexedTable;
 use run_text::RunText;
 use std::alloc::{AllocError, Global};
 
@@ -98,7 +99,7 @@ impl Walk {
         &self,
         par: ParId,
         items: &RunText<Item>,
-        table: &PageTable,
+        table: &IndexedTable,
     ) -> Result<List<Shown>, AllocError>
         ensures { (gathered : List GatheredPar) → Holds self.now gathered → IfOk result (λ texts. texts ≡ shown (events gathered) table.now par.0 items.now) }
     {
