@@ -3,21 +3,9 @@
 # paragraph, the container of a random row, a random row replaced by a copy of it after a share, and a paragraph put in front
 # and taken out again, each after a share. The paragraphs have no text, so that what is measured is the array.
 # It makes a small crate in a temporary folder, proves it and runs it as LLVM builds it; it is no part of the gate.
-set -euo pipefail
-here=$(cd "$(dirname "$0")" && pwd)
-top=$(cd "$here/../.." && pwd)
-work=$(mktemp -d)
-trap 'rm -rf "$work"' EXIT
-mkdir -p "$work/crates/calls/src" "$work/crates/calls/specs" "$work/crates/calls/proofs"
-for crate in doc_model run_text share_vec tagged_list node_array; do
-    mkdir -p "$work/crates/$crate"
-    for part in src specs proofs; do
-        if [ -d "$top/crates/$crate/$part" ]; then
-            cp -r "$top/crates/$crate/$part" "$work/crates/$crate/$part"
-        fi
-    done
-done
-cp "$here/main.txt" "$work/crates/calls/src/main.rt"
+source "$(dirname "$0")/../setup.sh"
+setup calls doc_model run_text share_vec tagged_list node_array
+mkdir -p "$work/crates/calls/specs" "$work/crates/calls/proofs"
 cp "$here/empty.txt" "$work/crates/calls/specs/Empty.antt"
 echo 'pub mod Empty' >"$work/crates/calls/specs/Lib.antt"
 cp "$here/bodies.txt" "$work/crates/calls/proofs/Bodies.antt"
@@ -26,13 +14,5 @@ for part in put_first put_and_take replace_again; do
     mkdir -p "$work/crates/calls/proofs/$part"
     cp "$here/$part.txt" "$work/crates/calls/proofs/$part/Answers.antt"
 done
-cp "$top/HANDLES" "$work/HANDLES"
-cat >"$work/crates.txt" <<'END'
-run_text:
-share_vec tests_may=Threads:
-doc_model: smallvec sqlite_items thiserror
-tagged_list: share_vec
-node_array: doc_model run_text share_vec tagged_list
-calls: doc_model node_array run_text
-END
+echo 'calls: doc_model node_array run_text' >>"$work/crates.txt"
 cd "$work/crates/calls" && rt run
