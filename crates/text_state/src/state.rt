@@ -158,34 +158,18 @@ impl TextState {
     pub fn with_styles(&self, styles: StyleTree) -> Result<TextState, AllocError>
         ensures { IfOk result (λ state. state ≡ record self.now { document = record self.now.document { defaults = styles.defaults; styles = styles.styles } }) }
     {
-        let rows = self.rows.share()?;
-        let names = Arc::try_clone(&self.names)?;
-        let rest = self.rest.share()?;
-        Ok(TextState {
-            rows,
-            styles,
-            names,
-            counts: self.counts,
-            rest,
-            next: self.next,
-        })
+        let mut state = self.share()?;
+        state.styles = styles;
+        Ok(state)
     }
 
     /// The state with other parts that are neither its body nor its styles.
     pub fn with_rest(&self, rest: Rest) -> Result<TextState, AllocError>
         ensures { IfOk result (λ state. state ≡ record self.now { document = document_of rest (record { defaults = self.now.document.defaults; styles = self.now.document.styles }) self.now.document.body }) }
     {
-        let rows = self.rows.share()?;
-        let styles = self.styles.share()?;
-        let names = Arc::try_clone(&self.names)?;
-        Ok(TextState {
-            rows,
-            styles,
-            names,
-            counts: self.counts,
-            rest,
-            next: self.next,
-        })
+        let mut state = self.share()?;
+        state.rest = rest;
+        Ok(state)
     }
 
     /// The document, copied. It takes memory and time for the whole of it.

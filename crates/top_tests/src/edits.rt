@@ -69,9 +69,27 @@ fn is(reply: Result<Reply, AllocError>, expected: Reply) -> bool {
     }
 }
 
+// Whether a desk answers commands one after another, and has no page count before its pages are settled.
+fn answers_in_order(alloc: Global) -> Result<bool, Fail> {
+    let mut desk = Desk::start(alloc, hello(alloc)?)?;
+    let replies = desk.answer(&[Command::Debt, Command::Take, Command::Version])?;
+    let expected = [Reply::Debt(20), Reply::Moved(19), Reply::Version(1)];
+    Ok(replies.get() == expected.as_slice() && desk.page_count().is_none())
+}
+
+// Whether a second edit is refused on what the first makes.
+fn refuses_the_second(alloc: Global) -> Result<bool, Fail> {
+    let doc = hello(alloc)?;
+    let why = Refusal::PastEnd(ParId(1), 2);
+    let expected = Some(EditFault::Refused { index: 1, why });
+    Ok(refusal(alloc, &doc, 4, 3)? == expected)
+}
+
 #[test]
-fn no_change_is_made_at_the_greatest_version(rt: HostRuntime) -> Result<(), Fail> {
+fn edits_are_answered_in_order_up_to_the_greatest_version(rt: HostRuntime) -> Result<(), Fail> {
     let alloc = rt.alloc();
+    assert!(rt; answers_in_order(alloc)?);
+    assert!(rt; refuses_the_second(alloc)?);
     let mut desk = Desk::start_at(alloc, hello(alloc)?, 4294967294)?;
     assert!(rt; is(edit(alloc, &mut desk, 2, 3), Reply::Changed(4294967295)));
     assert!(rt; is(edit(alloc, &mut desk, 1, 1), Reply::Changes(4294967295)));
@@ -80,24 +98,5 @@ fn no_change_is_made_at_the_greatest_version(rt: HostRuntime) -> Result<(), Fail
     assert!(rt; is(edit(alloc, &mut last, 1, 1), Reply::Changes(4294967295)));
     assert!(rt; is(last.undo(), Reply::NothingToUndo));
     assert!(rt; is(last.redo(), Reply::NothingToRedo));
-    Ok(())
-}
-
-#[test]
-fn commands_are_answered_one_after_another(rt: HostRuntime) -> Result<(), Fail> {
-    let mut desk = Desk::start(rt.alloc(), hello(rt.alloc())?)?;
-    let replies = desk.answer(&[Command::Debt, Command::Take, Command::Version])?;
-    let expected = [Reply::Debt(20), Reply::Moved(19), Reply::Version(1)];
-    assert!(rt; replies.get() == expected.as_slice());
-    assert!(rt; desk.page_count().is_none());
-    Ok(())
-}
-
-#[test]
-fn a_second_edit_is_refused_on_what_the_first_makes(rt: HostRuntime) -> Result<(), Fail> {
-    let doc = hello(rt.alloc())?;
-    let why = Refusal::PastEnd(ParId(1), 2);
-    let expected = Some(EditFault::Refused { index: 1, why });
-    assert!(rt; refusal(rt.alloc(), &doc, 4, 3)? == expected);
     Ok(())
 }

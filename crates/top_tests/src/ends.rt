@@ -72,8 +72,11 @@ fn fails(alloc: Global, x: &str, faults: Faults, end: End) -> Result<bool, Alloc
 }
 
 #[test]
-fn faults_end_a_run_by_their_causes(rt: HostRuntime) -> Result<(), Fail> {
+fn faults_end_a_run_by_their_causes_and_long_files_are_answered(
+    rt: HostRuntime,
+) -> Result<(), Fail> {
     let alloc = rt.alloc();
+    assert!(rt; answers_long_files(alloc)?);
     let file = format!(in alloc; "{ROOT}{ROOT_END}{BODY}<text:p>hello</text:p>{TAIL}")?;
     let x = file.as_str();
     let whole = End {
@@ -179,9 +182,8 @@ fn many_replies(alloc: Global, file: &str) -> Result<String, AllocError> {
     Ok(text)
 }
 
-#[test]
-fn long_files_are_read_and_answered(rt: HostRuntime) -> Result<(), Fail> {
-    let alloc = rt.alloc();
+// Whether the one is read and the other answered over it.
+fn answers_long_files(alloc: Global) -> Result<bool, AllocError> {
     let file = many_paragraphs(alloc)?;
     let script = many_lines(alloc)?;
     let text = many_replies(alloc, file.as_str())?;
@@ -190,6 +192,5 @@ fn long_files_are_read_and_answered(rt: HostRuntime) -> Result<(), Fail> {
         text: text.as_str(),
         line: "",
     };
-    assert!(rt; ends(alloc, file.as_str(), script.as_str(), NONE, end)?);
-    Ok(())
+    ends(alloc, file.as_str(), script.as_str(), NONE, end)
 }

@@ -106,17 +106,6 @@ fn all_placed(alloc: Global) -> Result<bool, AllocError> {
     Ok(true)
 }
 
-#[test]
-fn lines_end_where_they_may_and_their_rows_stand_in_place(rt: HostRuntime) -> Result<(), Fail> {
-    let alloc = rt.alloc();
-    assert!(rt; all_rows(alloc)?);
-    assert!(rt; all_placed(alloc)?);
-    let mut hidden = key(alloc, 8, 0, 0, Align::Start);
-    hidden.hidden = true;
-    assert!(rt; prints(alloc, "ab", hidden, "")?);
-    Ok(())
-}
-
 // How many columns the line at a place may take, of ten and with an indent.
 const WIDTHS: &[(i32, u32, u32)] = &[
     (0, 0, 10),
@@ -176,11 +165,8 @@ fn all_units(alloc: Global) -> Result<bool, AllocError> {
     Ok(true)
 }
 
-#[test]
-fn a_cluster_is_one_unit_and_a_line_has_one_at_least(rt: HostRuntime) -> Result<(), Fail> {
-    let alloc = rt.alloc();
-    assert!(rt; all_widths(alloc));
-    assert!(rt; all_units(alloc)?);
+// Whether a cluster is one unit, also the last of several.
+fn clusters_are_units(alloc: Global) -> Result<bool, AllocError> {
     let last = TextUnit {
         from: 4,
         to: 7,
@@ -188,8 +174,19 @@ fn a_cluster_is_one_unit_and_a_line_has_one_at_least(rt: HostRuntime) -> Result<
         class: UnitClass::Other,
     };
     let several = units(alloc, "é -漢")?;
-    assert!(rt; several.len() == 4);
-    assert!(rt; several.get().last() == Some(&last));
+    Ok(all_units(alloc)? && several.len() == 4 && several.get().last() == Some(&last))
+}
+
+#[test]
+fn lines_end_where_they_may_and_a_cluster_is_one_unit(rt: HostRuntime) -> Result<(), Fail> {
+    let alloc = rt.alloc();
+    assert!(rt; all_rows(alloc)?);
+    assert!(rt; all_placed(alloc)?);
+    let mut hidden = key(alloc, 8, 0, 0, Align::Start);
+    hidden.hidden = true;
+    assert!(rt; prints(alloc, "ab", hidden, "")?);
+    assert!(rt; all_widths(alloc));
+    assert!(rt; clusters_are_units(alloc)?);
     let narrow = key(alloc, 1, 0, 0, Align::Start);
     assert!(rt; prints(alloc, "\u{1100}\u{1100}ab", narrow, "\u{1100}\u{1100}|ab|")?);
     Ok(())

@@ -30,42 +30,6 @@ fn page(alloc: Global) -> Result<Page, AllocError> {
     })
 }
 
-#[test]
-fn replies_are_printed(rt: HostRuntime) -> Result<(), Fail> {
-    let alloc = rt.alloc();
-    let bad_char = Reply::Refused {
-        index: 2,
-        why: Refusal::BadChar(4),
-    };
-    let gone = Reply::Stale {
-        had: Stamp {
-            revision: 1,
-            epoch: 2,
-        },
-        now: None,
-    };
-    let page = Reply::Page(page(alloc)?, 2);
-    let text = Reply::Text(text_of(alloc, "a\"\\\n\t\u{1}\u{1f}\u{e9}")?);
-    assert!(rt; is_printed(alloc, &bad_char, "3: refused 2 bad-char 4\n")?);
-    assert!(rt;
-        is_printed(
-            alloc,
-            &Reply::Changes(4294967295),
-            "3: changes 4294967295\n"
-        )?
-    );
-    assert!(rt; is_printed(alloc, &gone, "3: stale had 1 2 now none\n")?);
-    assert!(rt; is_printed(alloc, &page, "3: page 1 of 2 number 7\n\u{e4} b\n\n")?);
-    assert!(rt;
-        is_printed(
-            alloc,
-            &text,
-            "3: text \"a\\\"\\\\\\n\\t\\u{1}\\u{1f}\u{e9}\"\n"
-        )?
-    );
-    Ok(())
-}
-
 // Whether an edit is a deletion that is printed as this line.
 fn is_deletion(alloc: Global, edit: &EditOp, line: &str) -> Result<bool, AllocError> {
     match edit {
@@ -98,7 +62,38 @@ fn is_printed_back(alloc: Global, line: &str) -> Result<bool, ScriptFault> {
 }
 
 #[test]
-fn an_edit_is_printed_as_its_line(rt: HostRuntime) -> Result<(), Fail> {
-    assert!(rt; is_printed_back(rt.alloc(), "delete 3 4 5")?);
+fn replies_and_edits_are_printed(rt: HostRuntime) -> Result<(), Fail> {
+    let alloc = rt.alloc();
+    assert!(rt; is_printed_back(alloc, "delete 3 4 5")?);
+    let bad_char = Reply::Refused {
+        index: 2,
+        why: Refusal::BadChar(4),
+    };
+    let gone = Reply::Stale {
+        had: Stamp {
+            revision: 1,
+            epoch: 2,
+        },
+        now: None,
+    };
+    let page = Reply::Page(page(alloc)?, 2);
+    let text = Reply::Text(text_of(alloc, "a\"\\\n\t\u{1}\u{1f}\u{e9}")?);
+    assert!(rt; is_printed(alloc, &bad_char, "3: refused 2 bad-char 4\n")?);
+    assert!(rt;
+        is_printed(
+            alloc,
+            &Reply::Changes(4294967295),
+            "3: changes 4294967295\n"
+        )?
+    );
+    assert!(rt; is_printed(alloc, &gone, "3: stale had 1 2 now none\n")?);
+    assert!(rt; is_printed(alloc, &page, "3: page 1 of 2 number 7\n\u{e4} b\n\n")?);
+    assert!(rt;
+        is_printed(
+            alloc,
+            &text,
+            "3: text \"a\\\"\\\\\\n\\t\\u{1}\\u{1f}\u{e9}\"\n"
+        )?
+    );
     Ok(())
 }
