@@ -19,7 +19,7 @@ use Rattle.container_rows.specs.Standing.{IsApart, KeepsParagraphs, CanBeMade, A
 use Rattle.container_rows.proofs.Spots.{own, times, times_both, Spot, Inner}
 use Rattle.container_rows.proofs.Parts.{head_row, bare, text_rows, own_rows}
 use Rattle.container_rows.proofs.Tests.{block_notes, par_here}
-use Rattle.container_rows.proofs.Notes.{Good, hold_none}
+use Rattle.container_rows.proofs.Notes.{Good}
 use Rattle.container_rows.proofs.Containers.{twice, body_found}
 use Rattle.container_rows.proofs.Numbers.{at_most_once}
 
@@ -103,4 +103,4 @@ changed_when change doc before head items rest few valid can is =
 pub changed_from : (change : List Block → List Block) (doc : Document) (before : List Row) (head : ParHead) (items : List Item) (rest : List Row)
     → IsApart doc → CanBeMade change doc head.id → rows_of doc.body ≡ before ++ row.Par head items ∷ rest
     → IsChangedFrom change before (row.Par head items ∷ rest) (rows_of (at_paragraph head.id change doc).body)
-changed_from change doc before head items rest apart can is = changed_when change doc before head items rest (at_most_once head.id.0 doc apart) (hold_none (notes doc) apart.notes) can is
+changed_from change doc before head items rest apart can is = changed_when change doc before head items rest (at_most_once head.id.0 doc apart) apart.notes can is

@@ -31,7 +31,7 @@ joined : (par other : Par) (blocks : List Block) → join_first (as_block par �
 joined par other blocks =
     ap₂ (λ (pars others : List Par). flat_map (λ p. map (λ o. as_block (with_items_of o p)) others) pars ++ blocks) (par_alone par) (par_alone other)
 
-join_keeps : KeepsParagraphs join_first
+pub join_keeps : KeepsParagraphs join_first
 join_keeps [] = refl
 join_keeps (par ∷ []) = kept_by (as_block par ∷ []) (par ∷ []) refl
 join_keeps (par ∷ other ∷ pars) = kept_by (join_first (map as_block (par ∷ other ∷ pars))) (with_items_of other par ∷ pars) (joined par other (map as_block pars))

@@ -13,24 +13,19 @@ use Rattle.doc_model.specs.declared.paragraph.Note.{Note, out-Note, roll-Note}
 use Rattle.doc_model.specs.declared.paragraph.What.TheOpen.{What-F, Note-F}
 use Rattle.doc_model.specs.declared.paragraph.What.TheViews.{out-roll-What, out-roll-Note, roll-out-Par, roll-out-Note}
 use Rattle.doc_model.specs.Reading.{note_of, notes_of}
-use Rattle.doc_model.specs.Parts.{what_of}
 use Rattle.edit_rules.specs.Places.{as_block, paragraph_of, is_paragraph, from_first, holds, note_container}
 use Rattle.edit_rules.specs.Blocks.{in_note_of, in_notes_of, of_paragraphs, from_paragraph}
 use Rattle.node_array.specs.declared.row.Row.{Row}
 use Rattle.node_array.specs.declared.row.Row.TheVariants as row
 use Rattle.node_array.specs.Rows.{par_rows, block_rows, rows_of}
 use Rattle.node_array.proofs.OneBody.{note_rows}
-use Rattle.doc_model.specs.Valid.{IsNote}
 use Rattle.container_rows.specs.Standing.{KeepsParagraphs, HoldsNoNotes}
 use Rattle.container_rows.proofs.Spots.{times, times_both, Spot, Inner, spot_then, spot_behind, inner_behind, one_in_all}
 use Rattle.container_rows.proofs.Parts.{NoNote, plain_text, head_row, bare, text_rows, rolled_rows, own_rows, block_is, blocks_are, by_what, note_is, note_item, with_pars, changed_note}
 use Rattle.container_rows.proofs.Firsts.{First, first_found, cut_at_first, each_part, each_first}
 use Rattle.container_rows.proofs.Tests.{block_notes, par_notes, pars_back, HasNoTexts, IsAt, paragraph_at, holds_is, some_held, none_held}
 
--- notes hold no notes
-what_is : (spans : List (List ℕ)) (what : What-F What Item Note Par) → what_of (roll-Item (record { spans = spans; what = roll-What what })) ≡ what
-what_is spans what = simp out-roll-What
-
+-- what is no note
 no_note_of : (spans : List (List ℕ)) (what : What-F What Item Note Par) → NoNote what → note_of (roll-Item (record { spans = spans; what = roll-What what })) ≡ []
 no_note_of spans (What-F.Char c) other = simp out-roll-What
 no_note_of spans What-F.Tab other = simp out-roll-What
@@ -47,21 +42,6 @@ no_note_by spans what other P here =
 
 pub note_alone : (spans : List (List ℕ)) (note : Note) → note_of (roll-Item (record { spans = spans; what = roll-What (What-F.Note note) })) ≡ note ∷ []
 note_alone spans note = simp out-roll-What
-
-no_note_at : (item : Item) → NoNote (what_of item) → note_of item ≡ []
-no_note_at = by_what (λ item. NoNote (what_of item) → note_of item ≡ []) (λ spans what other. no_note_of spans what (subst NoNote (what_is spans what) other))
-
-no_notes : (items : List Item) → Each (λ item. NoNote (what_of item)) items → flat_map note_of items ≡ []
-no_notes [] other = refl
-no_notes (item ∷ items) other = ap₂ (λ a b. a ++ b) (no_note_at item other.0) (no_notes items other.1)
-
-none_held_in : (pars : List Par) → Each (λ par. Each (λ item. NoNote (what_of item)) (out-Par par).items) pars → Each (λ par. notes_of par ≡ []) pars
-none_held_in [] other = tt
-none_held_in (par ∷ pars) other = (no_notes (out-Par par).items other.0, none_held_in pars other.1)
-
-pub hold_none : (some : List Note) → Each IsNote some → Each HoldsNoNotes some
-hold_none [] are = tt
-hold_none (note ∷ some) are = (none_held_in (out-Note note).pars are.0.1, hold_none some are.1)
 
 -- their rows are none
 text_by : (spans : List (List ℕ)) (what : What-F What Item Note Par) → note_of (roll-Item (record { spans = spans; what = roll-What what })) ≡ [] → text_rows (roll-Item (record { spans = spans; what = roll-What what })) ≡ []

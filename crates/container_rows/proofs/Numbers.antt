@@ -25,7 +25,7 @@ use Rattle.container_rows.proofs.Spots.{times, times_both}
 use Rattle.container_rows.proofs.Parts.{text_rows, block_is, section_is, by_what, note_is, note_item}
 use Rattle.container_rows.proofs.Firsts.{by_test, each_both}
 use Rattle.container_rows.proofs.Tests.{block_notes, par_notes, HasNoTexts, par_times}
-use Rattle.container_rows.proofs.Notes.{hold_none, bare_pars, no_note_by, note_alone}
+use Rattle.container_rows.proofs.Notes.{bare_pars, no_note_by, note_alone}
 use Rattle.container_rows.proofs.Containers.{section_pars, section_notes, twice}
 
 -- how many paragraphs have a number
@@ -173,6 +173,6 @@ module _ (number : ℕ) where
 
   pub at_most_once : (doc : Document) → IsApart doc → times number (rows_of doc.body) ≤ 1
   at_most_once doc apart =
-      let valid : Each HoldsNoNotes (flat_map block_notes doc.body) = subst (Each HoldsNoNotes) (twice notes_of block_paragraphs doc.body) (hold_none (notes doc) apart.notes) in
+      let valid : Each HoldsNoNotes (flat_map block_notes doc.body) = subst (Each HoldsNoNotes) (twice notes_of block_paragraphs doc.body) apart.notes in
       let pars : tally number (paragraphs doc) ≡ tally number (flat_map block_pars doc.body) = ap (tally number) (twice with_notes block_paragraphs doc.body) in
       omega (arith, body_counted doc.body valid, pars, at_most_one (paragraphs doc) apart.numbers)

@@ -8,7 +8,6 @@ use Rattle.doc_model.specs.declared.paragraph.ParId.{ParId}
 use Rattle.doc_model.specs.declared.document.Document.{Document}
 use Rattle.doc_model.specs.Reading.{paragraphs, number_of, notes_of}
 use Rattle.doc_model.specs.Parts.{notes}
-use Rattle.doc_model.specs.Valid.{IsNote}
 use Rattle.edit_rules.specs.Places.{as_block, is_in_note}
 use Rattle.edit_rules.specs.Blocks.{of_paragraphs}
 use Rattle.node_array.specs.declared.row.Row.{Row}
@@ -22,7 +21,7 @@ HoldsNoNotes note = Each (λ par. notes_of par ≡ []) (out-Note note).pars
 -- no two paragraphs of a document have one number, and no note holds a note
 pub record IsApart (doc : Document) : Type 0 where
   pub numbers : AllPairs (λ left right. left ≢ right) (map number_of (paragraphs doc))
-  pub notes : Each IsNote (notes doc)
+  pub notes : Each HoldsNoNotes (notes doc)
 
 -- a change of blocks makes paragraphs of paragraphs alone
 abbrev pub KeepsParagraphs : (List Block → List Block) → Type 0

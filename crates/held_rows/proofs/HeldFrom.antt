@@ -7,7 +7,6 @@ use Rattle.doc_model.specs.declared.paragraph.ParHead.{ParHead}
 use Rattle.doc_model.specs.declared.paragraph.Item.{Item}
 use Rattle.doc_model.specs.declared.document.Document.{Document}
 use Rattle.doc_model.specs.Parts.{notes}
-use Rattle.container_rows.proofs.Notes.{hold_none}
 use Rattle.doc_model.specs.Reading.{number_of, notes_of, block_paragraphs}
 use Rattle.edit_rules.specs.Places.{Held, WithContainers, is_held, from_first}
 use Rattle.node_array.specs.declared.row.Row.{Row}
@@ -30,7 +29,7 @@ held_from_row doc before head items rest apart is =
     let number : ℕ = head.id.0 in
     let here : own number (row.Par head items) ≡ 1 = ap {B = ℕ} (λ (b : Bool). cond b 1 0) (eq-eqb number number refl) in
     let one : times number (rows_of doc.body) ≡ 1 = omega (arith, ap (times number) is, times_both number before (row.Par head items ∷ rest), here, at_most_once number doc apart) in
-    let good : Each HoldsNoNotes (flat_map block_notes doc.body) = subst (Each HoldsNoNotes) (twice notes_of block_paragraphs doc.body) (hold_none (notes doc) apart.notes) in
+    let good : Each HoldsNoNotes (flat_map block_notes doc.body) = subst (Each HoldsNoNotes) (twice notes_of block_paragraphs doc.body) apart.notes in
     let it : Found number (rows_of doc.body) (map held_of doc.body ∷ flat_map within_of doc.body) = body_found number doc.body good one in
     let stands : Stands number (rows_of doc.body) (map held_of doc.body ∷ flat_map within_of doc.body) it.behind = it.stands in
     let numbered : eqb (number_of stands.par) number ≡ true = eq-eqb (number_of stands.par) number stands.numbered in

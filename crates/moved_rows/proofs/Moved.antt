@@ -26,7 +26,6 @@ use Rattle.container_rows.specs.Standing.{IsApart, KeepsParagraphs, IsChangedFro
 use Rattle.container_rows.specs.Texts.{note_count, through_ends}
 use Rattle.container_rows.proofs.Heads.{Opened, opened, kept_by}
 use Rattle.container_rows.proofs.Join.{notes_taken, notes_dropped}
-use Rattle.container_rows.proofs.Notes.{hold_none}
 use Rattle.container_rows.proofs.Numbers.{at_most_once}
 use Rattle.container_rows.proofs.Parts.{head_row, bare, text_rows, own_rows, block_is, blocks_are}
 use Rattle.container_rows.proofs.Spots.{times}
@@ -116,7 +115,7 @@ moved_among next doc before head items rest inside other others more front targe
     is ∙ ap (λ (rows : List Row). before ++ rows) (from_is ∙ ap (λ (bs : List Block). rows_of bs ++ held.behind) (blocks_are_cut ∙ ap (λ (bs : List Block). bs ++ run.rest) some_are))
     in
     let tail : List Row = rows_of run.rest ++ held.behind in
-    let valid : Each HoldsNoNotes (notes doc) = hold_none (notes doc) apart.notes in
+    let valid : Each HoldsNoNotes (notes doc) = apart.notes in
     let few : (n : ℕ) → times n (rows_of doc.body) ≤ 1 = λ n. at_most_once n doc apart in
     let left : Document = in_containers (without_paragraphs pars) doc in
     let now : rows_of left.body ≡ before ++ tail = taken_out pars run.front (as_block run.par) doc before run.rest held.behind some_are few valid held.ends whole in
