@@ -1,0 +1,4 @@
+pub mod ChangeLemmas
+pub mod LeftLemmas
+pub mod NoteLemmas
+pub mod RuleLemmas

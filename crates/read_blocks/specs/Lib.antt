@@ -1,0 +1,5 @@
+pub mod Adds
+pub mod First
+pub mod Kept
+pub mod NamedInside
+pub mod Shown
