@@ -10,6 +10,7 @@ pub use field_model::Shown;
 pub use keys::key_of;
 pub use laws::displays_say_what_styles_state;
 pub use parts::{KeyParts, SpanDisplay};
+pub use shown::is_shown_in;
 
 #[cfg(test)]
 mod tests;

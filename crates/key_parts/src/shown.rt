@@ -31,9 +31,10 @@ fn stated_display(displays: &[SpanDisplay], style: &Name) -> Option<bool>
     None
 }
 
-/// Whether an item is shown that stands in these spans.
+/// Whether an item is shown that stands in these spans, the outermost first: as the innermost one says that states it, else
+/// as the paragraph does.
 #[tactic(auto, using(crate::proofs::Displays::outermost))]
-fn is_shown_in(displays: &[SpanDisplay], otherwise: bool, spans: &[Name]) -> bool
+pub fn is_shown_in(displays: &[SpanDisplay], otherwise: bool, spans: &[Name]) -> bool
     ensures { result ≡ is_shown_in displays.now otherwise spans.now }
 {
     let mut shown = otherwise;
