@@ -1,0 +1,4 @@
+pub mod Blocks
+pub mod Labels
+pub mod Texts
+pub mod Stated
