@@ -1,0 +1,4 @@
+pub mod FirstLemmas
+pub mod UseLemmas
+pub mod MergeLemmas
+pub mod LeftLemmas

@@ -1,0 +1,4 @@
+pub mod Kept
+pub mod Used
+pub mod Names
+pub mod Merge
