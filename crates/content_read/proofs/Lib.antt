@@ -1,0 +1,5 @@
+pub mod AddLemmas
+pub mod AloneLemmas
+pub mod HeldLemmas
+pub mod RoleLemmas
+pub mod TurnLemmas

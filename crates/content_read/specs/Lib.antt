@@ -1,0 +1,5 @@
+pub mod Adds
+pub mod Held
+pub mod Known
+pub mod Marks
+pub mod Roles

@@ -1,0 +1,6 @@
+//! The text of elements.
+#![tactic(auto)]
+
+mod texts;
+
+pub use texts::own_text;
