@@ -8,7 +8,7 @@ use Rattle.std.proofs.lemmas.List.Concat.{flat_map-append}
 use Rattle.std.proofs.lemmas.Option.{get_or_from_slice_get}
 use Rattle.doc_model.specs.Limits.{greatest}
 use Rattle.node_array.specs.declared.row.Row.{Row}
-use Rattle.text_state.specs.State.{number_in}
+use Rattle.paragraph_rows.specs.Standing.{number_in}
 
 one_row_more : (rows : List Row) (at : ℕ) (row : Row) → at < length rows → slice_get rows at ≡ Some row
     → flat_map number_in (take (at + 1) rows) ≡ flat_map number_in (take at rows) ++ number_in row

@@ -1,13 +1,12 @@
 -- The document that is edited, put together from its parts, and its next paragraph number.
-use Rattle.std.specs.Prelude.{ℕ, ◌+◌, List, [], ◌∷◌}
+use Rattle.std.specs.Prelude.{ℕ, ◌+◌, List}
 use Rattle.std.specs.List.{flat_map}
 use Rattle.doc_model.specs.declared.block.Block.{Block}
 use Rattle.doc_model.specs.declared.document.Document.{Document}
 use Rattle.doc_model.specs.Limits.{greatest}
 use Rattle.edit_rules.specs.Edited.{Edited}
 use Rattle.node_array.specs.Rows.{rows_of}
-use Rattle.node_array.specs.declared.row.Row.{Row}
-use Rattle.node_array.specs.declared.row.Row.TheVariants as row
+use Rattle.paragraph_rows.specs.Standing.{number_in}
 use Rattle.style_model.specs.Changes.{StyleSheet}
 use Rattle.text_state.specs.declared.rest.RestParts.{RestParts}
 
@@ -26,13 +25,6 @@ document_of rest sheet body = record {
   counting = rest.counting;
   body = body;
 }
-
--- the number of the paragraph that a row is, if it is one
-abbrev pub number_in : Row → List ℕ
-number_in (row.Start head) = []
-number_in row.End = []
-number_in (row.Par head items) = head.id.0 ∷ []
-number_in row.NoteText = []
 
 -- the greatest number of a paragraph of a body, those of notes included
 abbrev pub greatest_number : List Block → ℕ

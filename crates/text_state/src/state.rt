@@ -6,9 +6,10 @@ ghost use Rattle.doc_model.specs.Valid.{IsValid};
 ghost use Rattle.name_index.specs.Names.{Agree};
 ghost use Rattle.name_index.specs.Scan.{scanned, names_of};
 ghost use Rattle.node_array.specs.Rows.{rows_of};
+ghost use Rattle.paragraph_rows.specs.Standing.{number_in};
 ghost use Rattle.row_counts.specs.Counts.{counts_of};
 ghost use Rattle.text_state.specs.RestOf.{rest_of};
-ghost use Rattle.text_state.specs.State.{document_of, greatest_number, number_in, unedited};
+ghost use Rattle.text_state.specs.State.{document_of, greatest_number, unedited};
 
 use crate::body_rows::array_of;
 use crate::document::document_of;

@@ -2,7 +2,7 @@ use Rattle.std.proofs.Common.{◌≡◌, take}
 use Rattle.std.specs.List.{flat_map}
 use Rattle.doc_model.specs.Limits.{greatest}
 use Rattle.node_array.specs.Rows.{rows_of}
-use Rattle.text_state.specs.State.{number_in}
+use Rattle.paragraph_rows.specs.Standing.{number_in}
 use Rattle.text_state.proofs.state.greatest_number.Given as goal
 
 abbrev pub invariant-loop-at : goal.invariant-loop-at
