@@ -50,7 +50,7 @@ both_lead : (kind : NameKind) (name : List ℕ) (before : List Row) (par other w
     → text_places kind whole ≡ flat_map (read_places kind (out-Par par).id) ((out-Par par).items ++ (out-Par other).items)
     → lead name (read kind (before ++ (par_rows whole ++ behind)) start)
     ≡ (if have_name kind name (out-Par other).items && leads_to (out-Par other).id (lead name (read kind (before ++ (par_rows par ++ (par_rows other ++ behind))) start))
-      then Some (out-Par par).id else lead name (read kind (before ++ (par_rows par ++ (par_rows other ++ behind))) start))
+    then Some (out-Par par).id else lead name (read kind (before ++ (par_rows par ++ (par_rows other ++ behind))) start))
 both_lead kind name before par other whole behind par_fits other_fits whole_fits it whole_is =
     let from : ParId = (out-Par other).id in
     let to : ParId = (out-Par par).id in

@@ -64,7 +64,7 @@ pub halves_lead : (kind : NameKind) (name : List ℕ) (before : List Row) (par f
     → text_places kind first ≡ flat_map (read_places kind (out-Par par).id) front → text_places kind second ≡ flat_map (read_places kind to) rear
     → lead name (read kind (before ++ (par_rows first ++ (par_rows second ++ behind))) start)
     ≡ (if (have_name kind name rear && not (have_name kind name front)) && leads_to (out-Par par).id (lead name (read kind (before ++ (par_rows par ++ behind)) start))
-      then Some to else lead name (read kind (before ++ (par_rows par ++ behind)) start))
+    then Some to else lead name (read kind (before ++ (par_rows par ++ behind)) start))
 halves_lead kind name before par first second behind front rear to it first_fits second_fits items_are first_is second_is =
     let id : ParId = (out-Par par).id in
     let ahead : Pairs = read kind before start in
