@@ -1,0 +1,4 @@
+pub mod Steps
+pub mod OneName
+pub mod Ranges
+pub mod NewNumbers

@@ -1,0 +1,3 @@
+pub mod Placed
+pub mod Added
+pub mod Dropped

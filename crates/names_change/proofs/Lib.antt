@@ -1,0 +1,11 @@
+pub mod Places
+pub mod Lead
+pub mod Bare
+pub mod Reading
+pub mod Others
+pub mod Renamed
+pub mod SectionStarts
+pub mod Found
+pub mod Split
+pub mod Join
+pub mod ByKind

@@ -1,0 +1,4 @@
+pub mod Neutral
+pub mod Halves
+pub mod Sections
+pub mod Unwrapped

@@ -1,0 +1,4 @@
+pub mod Unwrapped
+pub mod Set
+pub mod Outside
+pub mod Wrapped
