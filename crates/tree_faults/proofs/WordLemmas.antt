@@ -1,5 +1,5 @@
 -- Texts and words of ASCII characters.
-use Rattle.std.proofs.Common.{◌≡◌, ℕ, zero, suc, nat_lt, Bool, true, List, [], ◌∷◌, ap, ◌∙◌, arith, IsTrue}
+use Rattle.std.proofs.Common.{◌≡◌, ℕ, zero, suc, nat_lt, true, List, [], ◌∷◌, ap, ◌∙◌, arith, IsTrue}
 use Rattle.std.specs.List.{list_all}
 use Rattle.std.specs.Str.{bytes_eq, IsUtf8, IsAscii, chars}
 use Rattle.std.proofs.lemmas.Bool.{and_parts, ltb-true}

@@ -1,4 +1,4 @@
-use Rattle.std.proofs.Common.{◌++◌, ◌∷◌, [], List, map, take, subst}
+use Rattle.std.proofs.Common.{List, map, take, subst}
 use Rattle.load_model.specs.declared.element.Element.{Element}
 use Rattle.tree_faults.specs.Texts.{Goes}
 use Rattle.tree_faults.proofs.PlaceLemmas.{turns_more}
