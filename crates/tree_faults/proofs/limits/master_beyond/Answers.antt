@@ -1,0 +1,5 @@
+use Rattle.tree_faults.proofs.PlaceLemmas.{places_at}
+use Rattle.tree_faults.proofs.limits.master_beyond.Goals as goal
+
+pub returns : goal.returns
+returns c = λ root sheet. places_at (λ element. element.now) 1024 c.args.sheet.now.masters.items c.as_slice.result.now _ c.place_at.result c.place_at.ensures c.as_slice.ensures.value sheet.masters_are
