@@ -1,11 +1,10 @@
 -- What the checks of an edit that isn't refused have found.
-use Rattle.std.proofs.Common.{◌≡◌, ◌≢◌, ◌≤◌, ℕ, Bool, true, false, not, ◌||◌, List, [], ◌∷◌, Option, Some, None}
-use Rattle.std.specs.Prelude.{nat_lt, is_none, option_map, find}
+use Rattle.std.proofs.Common.{◌≡◌, ◌≢◌, ◌≤◌, ℕ, Bool, true, false, not, ◌||◌, List, [], ◌∷◌, None}
+use Rattle.std.specs.Prelude.{nat_lt, is_none, find}
 use Rattle.std.specs.List.{AllByRecursion as Each}
 use Rattle.doc_model.specs.declared.edit.EditOp.{EditOp}
 use Rattle.doc_model.specs.declared.field.NoteClass.{NoteClass}
 use Rattle.doc_model.specs.declared.paragraph.ParId.{ParId}
-use Rattle.doc_model.specs.declared.refusal.Refusal.{Refusal}
 use Rattle.doc_model.specs.declared.refusal.Refusal.TheVariants.{NoPar, PastEnd, BadRange, NoName, NameTaken, StyleLoop, InUse, NotTogether}
 use Rattle.doc_model.specs.declared.style.Family.{Family}
 use Rattle.edit_rules.specs.Edited.{Edited}

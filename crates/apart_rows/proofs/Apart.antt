@@ -1,9 +1,8 @@
 -- Paragraphs that are apart by their rows.
-use Rattle.std.proofs.Common.{◌≡◌, ◌≢◌, ℕ, List, [], ◌∷◌, ◌++◌, subst}
+use Rattle.std.proofs.Common.{◌≢◌, List, [], ◌∷◌, subst}
 use Rattle.std.specs.Prelude.{AllPairs}
 use Rattle.std.specs.List.{flat_map, AllByRecursion as Each}
 use Rattle.doc_model.specs.declared.document.Document.{Document}
-use Rattle.doc_model.specs.declared.paragraph.Note.{Note}
 use Rattle.doc_model.specs.declared.paragraph.Par.{Par}
 use Rattle.doc_model.specs.Reading.{body_paragraphs, notes_of}
 use Rattle.edit_rules.specs.Edited.{Edited}
