@@ -22,7 +22,8 @@ use Rattle.node_array.specs.declared.row.Row.TheVariants as row
 use Rattle.node_array.specs.Rows.{par_rows, block_rows, rows_of}
 use Rattle.paragraph_rows.specs.Flat.{AreFlat}
 use Rattle.paragraph_rows.specs.OwnRow.{text_rows}
-use Rattle.paragraph_rows.proofs.Blocks.{par_block, section_block, of_blocks, par_block_rows, par_block_paragraphs, section_block_rows, section_block_paragraphs}
+use Rattle.block_facts.proofs.Blocks.{par_block, section_block, of_blocks, par_reads, section_reads}
+use Rattle.paragraph_rows.proofs.Blocks.{par_block_rows, section_block_rows}
 use Rattle.paragraph_rows.proofs.FlatPars.{IsFlatNote, IsFlatPar, IsFlatBlock, flat_pars}
 use Rattle.paragraph_rows.proofs.Lists.{each_front, each_behind}
 use Rattle.paragraph_rows.proofs.NoteRows.{alone_rows, grouped}
@@ -76,7 +77,7 @@ module _ (number : ℕ) where
   par_front : (par : Par) → Fronts (par_block par)
   par_front par flat fresh more =
       ap (λ (rows : List Row). is_front fresh number (rows ++ more)) (par_block_rows par ∙ par_open par)
-      ∙ ap (λ (b : Bool). fresh && eqb (number_of par) number || b) (notes_front (notes_of par) more (subst (Each IsFlatPar) (par_block_paragraphs par) flat).0)
+      ∙ ap (λ (b : Bool). fresh && eqb (number_of par) number || b) (notes_front (notes_of par) more (subst (Each IsFlatPar) (par_reads par) flat).0)
       ∙ sym (ap₂ (λ (held : Option Par) (cs : List Held). fresh && is_held number held || (list_any (begins_with number) cs || is_front false number more)) (held_par par) (within_par par))
 
   blocks_front : (blocks : List Block) → Each Fronts blocks → Each IsFlatPar (flat_map block_paragraphs blocks) → (fresh : Bool) (tail : List Row) → Ends tail
@@ -96,7 +97,7 @@ module _ (number : ℕ) where
   section_front x known flat fresh more =
       ap (λ (rows : List Row). is_front fresh number (rows ++ more)) (section_block_rows x)
       ∙ ap (is_front true number) (append_assoc (rows_of x.blocks) (row.End ∷ []) more)
-      ∙ blocks_front x.blocks known (subst (Each IsFlatPar) (section_block_paragraphs x) flat) true (row.End ∷ more) (λ fresh. refl)
+      ∙ blocks_front x.blocks known (subst (Each IsFlatPar) (section_reads x) flat) true (row.End ∷ more) (λ fresh. refl)
       ∙ sym (or_assoc (begins_with number (map held_of x.blocks)) (list_any (begins_with number) (flat_map within_of x.blocks)) (is_front false number more))
       ∙ sym (ap₂ (λ (a : Bool) (cs : List Held). a || (list_any (begins_with number) cs || is_front false number more))
       (ap (λ (held : Option Par). fresh && is_held number held) (section_none (roll-Section x)) ∙ and_none fresh) (section_within x))

@@ -11,7 +11,8 @@ use Rattle.doc_model.specs.Reading.{number_of, paragraphs}
 use Rattle.container_rows.specs.Standing.{IsApart}
 use Rattle.container_rows.proofs.Firsts.{by_test}
 use Rattle.edit_rules.specs.Places.{Held, are_in_order, container_of, containers, from_first, held_between, held_from, holds, is_held, live_paragraph, through_first}
-use Rattle.container_facts.proofs.Counts.{held_once, held_times, held_is, tally}
+use Rattle.container_rows.proofs.Numbers.{tally}
+use Rattle.container_facts.proofs.Counts.{held_once, held_times, held_is}
 use Rattle.container_facts.proofs.Lists.{passing, some_pass, from_there, through_there, either_behind, from_both, through_both}
 
 pub some_is : {X : Type 0} (x y : X) → Some x ≡ Some y → x ≡ y

@@ -21,7 +21,8 @@ use Rattle.container_rows.proofs.Firsts.{by_test, or_nothing}
 use Rattle.container_rows.proofs.Tests.{block_notes, par_notes}
 use Rattle.edit_rules.specs.Places.{Held, WithContainers, are_in_one_text, as_block, container_of, containers, holds, is_held, is_in_note, is_one_of, live_paragraph, note_container}
 use Rattle.held_rows.proofs.Stands.{par_containers}
-use Rattle.container_facts.proofs.Counts.{held_once, held_times, notes_held, section_within, tally, tally_both, tally_once, times_both, within_of}
+use Rattle.container_rows.proofs.Numbers.{tally, tally_both}
+use Rattle.container_facts.proofs.Counts.{held_once, held_times, notes_held, section_within, tally_once, times_both, within_of}
 use Rattle.container_facts.proofs.Lists.{passing, some_pass}
 use Rattle.container_facts.proofs.Shared.{found_later, found_now, found_passes, held_somewhere, live_counts, some_is, Somewhere}
 

@@ -29,12 +29,12 @@ use Rattle.container_rows.proofs.Notes.{bare_pars, no_note_by, note_alone}
 use Rattle.container_rows.proofs.Containers.{section_pars, section_notes, twice}
 
 -- how many paragraphs have a number
-abbrev tally : ℕ → List Par → ℕ
+abbrev pub tally : ℕ → List Par → ℕ
 tally number [] = 0
 tally number (par ∷ pars) = cond (eqb (number_of par) number) 1 0 + tally number pars
 
 module _ (number : ℕ) where
-  tally_both : (some more : List Par) → tally number (some ++ more) ≡ tally number some + tally number more
+  pub tally_both : (some more : List Par) → tally number (some ++ more) ≡ tally number some + tally number more
   tally_both [] more = omega arith
   tally_both (par ∷ some) more = omega (arith, tally_both some more)
 
@@ -157,7 +157,8 @@ module _ (number : ℕ) where
       let more = none_there pars (λ k d within. differ (suc k) d (omega (arith, within))) in
       omega (arith, ap {B = ℕ} (λ (b : Bool). cond b 1 0) other, more))
 
-  at_most_one : (pars : List Par) → AllPairs (λ left right. left ≢ right) (map number_of pars) → tally number pars ≤ 1
+  -- where the numbers differ, one paragraph at the most has it
+  pub at_most_one : (pars : List Par) → AllPairs (λ left right. left ≢ right) (map number_of pars) → tally number pars ≤ 1
   at_most_one [] pairs = omega arith
   at_most_one (par ∷ pars) pairs =
       by_test (eqb (number_of par) number)

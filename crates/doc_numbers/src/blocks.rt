@@ -8,7 +8,7 @@ ghost use Rattle.load_model.specs.Loaded.{numbered};
 ghost use Rattle.doc_numbers.specs.Numbering.{Follow, block_pars};
 
 use crate::paragraphs::number_par;
-use crate::stack::Stack;
+use item_stack::Stack;
 use doc_model::{Block, Document, List, Section};
 use sqlite_items::Items;
 use std::alloc::{AllocError, Global};
@@ -55,7 +55,7 @@ fn number_body(alloc: Global, body: List<Block>) -> Result<List<Block>, AllocErr
     ensures { IfOk result (λ all. (numbers : List ℕ) → Follow numbers 0 (flat_map block_pars body) → all ≡ map (in_block (numbered numbers)) body) }
 {
     let mut last = 0;
-    let blocks = number_blocks(alloc, Stack::of_vec(body.into_vec()), &mut last)?;
+    let blocks = number_blocks(alloc, Stack::from_vec(body.into_vec()), &mut last)?;
     Ok(List::from_list(blocks))
 }
 
@@ -107,7 +107,7 @@ fn number_section(alloc: Global, section: Section, last: &mut u32) -> Result<Sec
         source,
         blocks,
     } = section;
-    let blocks = number_blocks(alloc, Stack::of_items(alloc, blocks)?, last)?;
+    let blocks = number_blocks(alloc, Stack::from_items(alloc, blocks)?, last)?;
     Ok(Section {
         kind,
         name,

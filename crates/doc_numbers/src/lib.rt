@@ -3,6 +3,5 @@
 
 mod blocks;
 mod paragraphs;
-mod stack;
 
 pub use blocks::number_paragraphs;

@@ -9,7 +9,7 @@ ghost use Rattle.doc_model.specs.Reading.{with_notes};
 ghost use Rattle.load_model.specs.Loaded.{at_most_ten, numbered};
 ghost use Rattle.doc_numbers.specs.Numbering.{Follow, with_number, note_pars, what_pars, in_text, in_what, is_note, is_note_what};
 
-use crate::stack::Stack;
+use item_stack::Stack;
 use doc_model::{Item, ListPos, Note, Par, ParId, What};
 use sqlite_items::{Boxed, Items};
 use std::alloc::{AllocError, Global};
@@ -94,7 +94,7 @@ fn number_items(
     if !has_note(items.as_slice()) {
         return Ok(items);
     }
-    let mut left = Stack::of_items(alloc, items)?;
+    let mut left = Stack::from_items(alloc, items)?;
     let mut done = Vec::with_capacity(alloc, left.len())?;
     'left: while let Some(item) = left.pop() {
         done.push(number_item(alloc, item, last)?)?;
@@ -154,7 +154,7 @@ fn number_note(alloc: Global, note: Note, last: &mut u32) -> Result<Note, AllocE
     ensures numbered { IfOk result (λ one. (numbers : List ℕ) → Follow numbers last.old (out-Note note).pars → one ≡ in_text (numbered numbers) note) }
 {
     let Note { id, class, pars } = note;
-    let pars = number_pars(alloc, Stack::of_items(alloc, pars)?, last)?;
+    let pars = number_pars(alloc, Stack::from_items(alloc, pars)?, last)?;
     Ok(Note { id, class, pars })
 }
 

@@ -19,7 +19,7 @@ use Rattle.doc_model.specs.Reading.{paragraphs, number_of, with_notes, note_of, 
 use Rattle.load_model.specs.Blocks.{with_place}
 use Rattle.load_model.specs.Loaded.{at_most_ten, numbered}
 use Rattle.draft_numbers.specs.Counts.{count_of}
-use Rattle.draft_numbers.proofs.BlockLemmas.{par_block, section_block, of_block, par_reads, par_changes, section_reads, section_changes}
+use Rattle.block_facts.proofs.Blocks.{par_block, section_block, of_block, par_reads, par_changes, section_reads, section_changes}
 
 abbrev at_ten : Par → Par
 at_ten = with_place at_most_ten

@@ -35,6 +35,7 @@ use Rattle.paragraph_rows.specs.NoteRows.{new_rows}
 use Rattle.paragraph_rows.specs.OwnRow.{bare, text_rows}
 use Rattle.paragraph_rows.specs.Standing.{Stands}
 use Rattle.paragraph_rows.proofs.Lists.{each_behind}
+use Rattle.paragraph_rows.proofs.NoteEdits.{fresh_note, fresh_rows}
 use Rattle.paragraph_rows.proofs.Opened.{par_open}
 use Rattle.rows_stay_sound.proofs.Neutral.{numbers, numbers_both}
 use Rattle.row_edits.specs.Sound.{IsSound, is_note_open}
@@ -157,20 +158,6 @@ field_unnamed old par before head items behind stands sound at name format =
     kinds_agree old.document new kinds.Reference (field_others old par at name [] format it)
     (unnamed_among (names_of_kind old.document kinds.Reference) (names_of_kind new kinds.Reference)
     (read_places kinds.Reference (out-Par it.par).id (new_item at (What-F.Field (fields.Sequence name [] format)) it.par)) par (it.names kinds.Reference tt) (field_places old par at name [] format it))
-
--- a note with one empty paragraph
-abbrev fresh_note : NoteClass → List ℕ → ℕ → Note
-fresh_note class id number = roll-Note (record { id = id; class = class; pars = empty_paragraph number ∷ [] })
-
-empty_rows : (number : ℕ) → par_rows (empty_paragraph number) ≡ row.Par (record { id = record { 0 = number }; style = []; level = 0; list = None }) [] ∷ []
-empty_rows number =
-    par_open (empty_paragraph number)
-    ∙ ap (λ (layer : Par-F What Item Note Par). row.Par (record { id = layer.id; style = layer.style; level = layer.level; list = layer.list }) (map bare layer.items) ∷ flat_map text_rows (flat_map note_of layer.items)) (out-roll-Par _)
-
-fresh_rows : (class : NoteClass) (id : List ℕ) (number : ℕ) → text_rows (fresh_note class id number) ≡ new_rows number
-fresh_rows class id number =
-    ap (λ (layer : Note-F What Item Note Par). row.NoteText ∷ (flat_map par_rows layer.pars ++ row.End ∷ [])) (out-roll-Note _)
-    ∙ ap (λ (rows : List Row). row.NoteText ∷ ((rows ++ []) ++ row.End ∷ [])) (empty_rows number)
 
 note_notes : (at : ℕ) (class : NoteClass) (id : List ℕ) (number : ℕ) (par : Par) → note_of (new_item at (new_note class id number) par) ≡ fresh_note class id number ∷ []
 note_notes at class id number par = simp out-roll-What

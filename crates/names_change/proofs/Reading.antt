@@ -22,7 +22,8 @@ use Rattle.paragraph_rows.specs.Flat.{has_flat_notes, AreFlat}
 use Rattle.paragraph_rows.specs.OwnRow.{bare, text_rows, rows_of_notes}
 use Rattle.paragraph_rows.proofs.Lists.{each_front, each_behind, twice}
 use Rattle.paragraph_rows.proofs.Opened.{par_open}
-use Rattle.paragraph_rows.proofs.Blocks.{par_block, section_block, of_blocks, par_block_rows, par_block_paragraphs, section_block_rows, section_block_paragraphs}
+use Rattle.block_facts.proofs.Blocks.{par_block, section_block, of_blocks, par_reads, section_reads}
+use Rattle.paragraph_rows.proofs.Blocks.{par_block_rows, section_block_rows}
 use Rattle.paragraph_rows.proofs.FlatPars.{IsFlatNote, IsFlatPar, IsFlatBlock, no_note_within, notes_flat, flat_pars}
 use Rattle.paragraph_rows.proofs.NoteRows.{alone_rows, grouped}
 use Rattle.names_change.specs.ItemNames.{item_names}
@@ -242,16 +243,16 @@ module _ (kind : NameKind) where
 
   par_reads : (par : Par) → Reads-Block (par_block par)
   par_reads par flat more =
-      let mine : Each IsFlatPar (par ∷ []) = subst (Each IsFlatPar) (par_block_paragraphs par) flat in
+      let mine : Each IsFlatPar (par ∷ []) = subst (Each IsFlatPar) (par_reads par) flat in
       ap (λ (rows : List Row). read (rows ++ more) (state false [])) (par_block_rows par) ∙ par_outside [] par more mine.0
-      ∙ ap (λ (names : Pairs). names ++ read more (state false [])) (sym (ap (flat_map (text_places kind)) (par_block_paragraphs par) ∙ append-nil (text_places kind par)))
+      ∙ ap (λ (names : Pairs). names ++ read more (state false [])) (sym (ap (flat_map (text_places kind)) (par_reads par) ∙ append-nil (text_places kind par)))
 
   section_reads : (x : Section-F Block Section) → Each Reads-Block x.blocks → Reads-Block (section_block x)
   section_reads x known flat more =
       ap (λ (rows : List Row). read (rows ++ more) (state false [])) (section_block_rows x)
       ∙ ap (λ (rows : List Row). read rows (state false [])) (append_assoc (rows_of x.blocks) (row.End ∷ []) more)
-      ∙ blocks_read x.blocks known (subst (Each IsFlatPar) (section_block_paragraphs x) flat) (row.End ∷ more)
-      ∙ ap (λ (names : Pairs). names ++ read more (state false [])) (sym (ap (flat_map (text_places kind)) (section_block_paragraphs x) ∙ twice (text_places kind) block_paragraphs x.blocks))
+      ∙ blocks_read x.blocks known (subst (Each IsFlatPar) (section_reads x) flat) (row.End ∷ more)
+      ∙ ap (λ (names : Pairs). names ++ read more (state false [])) (sym (ap (flat_map (text_places kind)) (section_reads x) ∙ twice (text_places kind) block_paragraphs x.blocks))
 
   pub body_read : (body : List Block) → AreFlat (rows_of body) → read (rows_of body) (state false []) ≡ flat_map (block_places kind) body
   body_read body flat =

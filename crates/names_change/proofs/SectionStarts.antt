@@ -16,7 +16,8 @@ use Rattle.node_array.specs.declared.row.Row.TheVariants as row
 use Rattle.node_array.specs.Rows.{par_rows, block_rows, rows_of}
 use Rattle.paragraph_rows.specs.OwnRow.{rows_of_notes}
 use Rattle.paragraph_rows.proofs.Opened.{par_open}
-use Rattle.paragraph_rows.proofs.Blocks.{par_block, section_block, of_blocks, par_block_rows, section_block_rows}
+use Rattle.block_facts.proofs.Blocks.{par_block, section_block, of_blocks}
+use Rattle.paragraph_rows.proofs.Blocks.{par_block_rows, section_block_rows}
 use Rattle.section_rows.proofs.Flat.{NoStart, par_flat}
 use Rattle.names_change.proofs.Lead.{Pairs}
 

@@ -23,7 +23,8 @@ use Rattle.paragraph_rows.specs.Changes.{Follows}
 use Rattle.paragraph_rows.specs.Flat.{AreFlat}
 use Rattle.paragraph_rows.proofs.Lists.{each_front, each_behind}
 use Rattle.paragraph_rows.proofs.Opened.{item_of, item_is, bare_item_is, par_open}
-use Rattle.paragraph_rows.proofs.Blocks.{par_block, section_block, section_head, of_blocks, par_block_rows, par_block_paragraphs, in_par_block, section_block_rows, section_block_paragraphs, in_section_block}
+use Rattle.block_facts.proofs.Blocks.{par_block, section_block, of_blocks, par_reads, par_changes, section_reads, section_changes}
+use Rattle.paragraph_rows.proofs.Blocks.{section_head, par_block_rows, section_block_rows}
 use Rattle.paragraph_rows.proofs.FlatPars.{IsFlatNote, IsFlatPar, IsFlatBlock, flat_pars}
 
 -- the note with a change made to each of its paragraphs
@@ -141,13 +142,13 @@ module _ (change : Par → Par) (later : Row → Row) (follows : Follows change 
 
   par_block_later : (one : Par) → Later (par_block one)
   par_block_later one flat =
-      ap block_rows (in_par_block change one) ∙ par_block_rows (in_paragraph change one) ∙ par one (subst (Each IsFlatPar) (par_block_paragraphs one) flat).0
+      ap block_rows (par_changes change one) ∙ par_block_rows (in_paragraph change one) ∙ par one (subst (Each IsFlatPar) (par_reads one) flat).0
       ∙ ap (map later) (sym (par_block_rows one))
 
   section_block_later : (x : Section-F Block Section) → Each Later x.blocks → Later (section_block x)
   section_block_later x known flat =
-      let inner = blocks x.blocks known (subst (Each IsFlatPar) (section_block_paragraphs x) flat) in
-      ap block_rows (in_section_block change x) ∙ section_block_rows (record x { blocks = map (in_block change) x.blocks })
+      let inner = blocks x.blocks known (subst (Each IsFlatPar) (section_reads x) flat) in
+      ap block_rows (section_changes change x) ∙ section_block_rows (record x { blocks = map (in_block change) x.blocks })
       ∙ ap (λ (rows : List Row). row.Start (section_head x) ∷ (rows ++ row.End ∷ [])) inner
       ∙ ap₂ (λ (first last : Row). first ∷ (map later (rows_of x.blocks) ++ last ∷ [])) (sym (follows.start (section_head x))) (sym follows.end)
       ∙ ap (λ (rows : List Row). later (row.Start (section_head x)) ∷ rows) (sym (map-append later (rows_of x.blocks) (row.End ∷ [])))

@@ -15,7 +15,8 @@ use Rattle.paragraph_rows.specs.OwnRow.{text_rows, rows_of_notes}
 use Rattle.paragraph_rows.specs.Flat.{has_flat_notes, AreFlat}
 use Rattle.paragraph_rows.proofs.Lists.{each_both}
 use Rattle.paragraph_rows.proofs.Opened.{par_open}
-use Rattle.paragraph_rows.proofs.Blocks.{par_block, section_block, of_blocks, par_block_rows, par_block_paragraphs, section_block_rows, section_block_paragraphs}
+use Rattle.block_facts.proofs.Blocks.{par_block, section_block, of_blocks, par_reads, section_reads}
+use Rattle.paragraph_rows.proofs.Blocks.{par_block_rows, section_block_rows}
 
 -- no paragraph of the note has notes
 abbrev pub IsFlatNote : Note → Type 0
@@ -70,14 +71,14 @@ blocks_flat (block ∷ blocks) more known flat =
 par_block_flat : (par : Par) → Flattens (par_block par)
 par_block_flat par more flat =
     let here = par_flat par more (sym (ap (λ (rows : List Row). has_flat_notes false (rows ++ more)) (par_block_rows par)) ∙ flat) in
-    (subst (Each IsFlatPar) (sym (par_block_paragraphs par)) (here.0, tt), here.1)
+    (subst (Each IsFlatPar) (sym (par_reads par)) (here.0, tt), here.1)
 
 section_block_flat : (x : Section-F Block Section) → Each Flattens x.blocks → Flattens (section_block x)
 section_block_flat x known more flat =
     let opened : has_flat_notes false (rows_of x.blocks ++ (row.End ∷ more)) ≡ true =
     sym (ap (λ (rows : List Row). has_flat_notes false (rows ++ more)) (section_block_rows x) ∙ ap (has_flat_notes false) (append_assoc (rows_of x.blocks) (row.End ∷ []) more)) ∙ flat in
     let here = blocks_flat x.blocks (row.End ∷ more) known opened in
-    (subst (Each IsFlatPar) (sym (section_block_paragraphs x)) here.0, here.1)
+    (subst (Each IsFlatPar) (sym (section_reads x)) here.0, here.1)
 
 pub flat_pars : (body : List Block) → AreFlat (rows_of body) → Each IsFlatPar (flat_map block_paragraphs body)
 flat_pars body flat =

@@ -5,11 +5,6 @@ use Rattle.std.proofs.lemmas.Bool.{false≢true}
 use Rattle.std.proofs.lemmas.List.{take-map, drop-map}
 use Rattle.std.proofs.lemmas.List.Concat.{flat_map-append}
 
--- lists joined
-pub joined : {X Y : Type 0} (f : X → List Y) (xs : List X) → flat_map (λ ys. ys) (map f xs) ≡ flat_map f xs
-joined f [] = refl
-joined f (x ∷ xs) = ap (λ ys. f x ++ ys) (joined f xs)
-
 -- lists of lists joined
 pub twice : {X Y Z : Type 0} (g : Y → List Z) (f : X → List Y) (xs : List X) → flat_map g (flat_map f xs) ≡ flat_map (λ x. flat_map g (f x)) xs
 twice g f [] = refl

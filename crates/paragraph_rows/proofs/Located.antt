@@ -23,7 +23,8 @@ use Rattle.paragraph_rows.specs.Standing.{Stands}
 use Rattle.paragraph_rows.specs.Located.{Located}
 use Rattle.paragraph_rows.proofs.Lists.{joined_map, each_front, each_behind}
 use Rattle.paragraph_rows.proofs.Opened.{par_open}
-use Rattle.paragraph_rows.proofs.Blocks.{par_block, section_block, section_head, of_blocks, par_block_rows, par_block_paragraphs, in_par_block, section_block_rows, section_block_paragraphs, in_section_block}
+use Rattle.block_facts.proofs.Blocks.{par_block, section_block, of_blocks, par_reads, par_changes, section_reads, section_changes}
+use Rattle.paragraph_rows.proofs.Blocks.{section_head, par_block_rows, section_block_rows}
 use Rattle.paragraph_rows.proofs.FlatPars.{IsFlatNote, IsFlatPar, IsFlatBlock, flat_pars}
 use Rattle.paragraph_rows.proofs.Changed.{note_changed, own_same, notes_changed, text_changed}
 
@@ -283,16 +284,16 @@ module _ (par : ParId) where
   part_par : (one : Par) → IsPart (par_block one)
   part_par one flat =
       part_as (par_rows one) (block_rows (par_block one)) (λ change. par_rows (in_paragraph (at_this change) one)) (λ change. block_rows (in_block (at_this change) (par_block one))) (par_block_rows one)
-      (λ change. ap block_rows (in_par_block (at_this change) one) ∙ par_block_rows (in_paragraph (at_this change) one))
-      (body_par one (subst (Each IsFlatPar) (par_block_paragraphs one) flat).0)
+      (λ change. ap block_rows (par_changes (at_this change) one) ∙ par_block_rows (in_paragraph (at_this change) one))
+      (body_par one (subst (Each IsFlatPar) (par_reads one) flat).0)
 
   part_section : (x : Section-F Block Section) → Each IsPart x.blocks → IsPart (section_block x)
   part_section x known flat =
       let start : Row = row.Start (section_head x) in
       let later : (Par → Par) → List Row = λ change. rows_of (map (in_block (at_this change)) x.blocks) in
       part_as (start ∷ (rows_of x.blocks ++ row.End ∷ [])) (block_rows (section_block x)) (λ change. start ∷ (later change ++ row.End ∷ [])) (λ change. block_rows (in_block (at_this change) (section_block x))) (section_block_rows x)
-      (λ change. ap block_rows (in_section_block (at_this change) x) ∙ section_block_rows (record x { blocks = map (in_block (at_this change)) x.blocks }))
-      (part_between start row.End (rows_of x.blocks) later refl refl (part_blocks x.blocks known (subst (Each IsFlatPar) (section_block_paragraphs x) flat)))
+      (λ change. ap block_rows (section_changes (at_this change) x) ∙ section_block_rows (record x { blocks = map (in_block (at_this change)) x.blocks }))
+      (part_between start row.End (rows_of x.blocks) later refl refl (part_blocks x.blocks known (subst (Each IsFlatPar) (section_reads x) flat)))
 
   part_body : (body : List Block) → AreFlat (rows_of body) → Part (rows_of body) (λ change. rows_of (map (in_block (at_this change)) body))
   part_body body flat = part_blocks body (of_blocks IsPart part_par part_section body) (flat_pars body flat)

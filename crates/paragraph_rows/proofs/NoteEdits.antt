@@ -78,7 +78,7 @@ cut_flat some more flat =
     (each_front IsFlatNote (flat_map note_of some) (flat_map note_of more) both, each_behind IsFlatNote (flat_map note_of some) (flat_map note_of more) both)
 
 -- a note with one empty paragraph
-abbrev fresh_note : NoteClass → List ℕ → ℕ → Note
+abbrev pub fresh_note : NoteClass → List ℕ → ℕ → Note
 fresh_note class id number = roll-Note (record { id = id; class = class; pars = empty_paragraph number ∷ [] })
 
 empty_rows : (number : ℕ) → par_rows (empty_paragraph number) ≡ row.Par (record { id = record { 0 = number }; style = []; level = 0; list = None }) [] ∷ []
@@ -86,7 +86,8 @@ empty_rows number =
     par_open (empty_paragraph number)
     ∙ ap (λ (layer : Par-F What Item Note Par). row.Par (record { id = layer.id; style = layer.style; level = layer.level; list = layer.list }) (map bare layer.items) ∷ flat_map text_rows (flat_map note_of layer.items)) (out-roll-Par _)
 
-fresh_rows : (class : NoteClass) (id : List ℕ) (number : ℕ) → text_rows (fresh_note class id number) ≡ new_rows number
+-- its rows
+pub fresh_rows : (class : NoteClass) (id : List ℕ) (number : ℕ) → text_rows (fresh_note class id number) ≡ new_rows number
 fresh_rows class id number =
     ap (λ (layer : Note-F What Item Note Par). row.NoteText ∷ (flat_map par_rows layer.pars ++ row.End ∷ [])) (out-roll-Note _)
     ∙ ap (λ (rows : List Row). row.NoteText ∷ ((rows ++ []) ++ row.End ∷ [])) (empty_rows number)

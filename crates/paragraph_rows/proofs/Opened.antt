@@ -14,7 +14,8 @@ use Rattle.node_array.specs.declared.row.Row.TheVariants as row
 use Rattle.node_array.specs.Rows.{par_rows}
 use Rattle.node_array.proofs.OneBody.{item_rows, what_rows, note_rows, par_opens, note_opens, item_opens}
 use Rattle.paragraph_rows.specs.OwnRow.{bare, own_row, text_rows, rows_of_notes}
-use Rattle.paragraph_rows.proofs.Lists.{joined, twice, same_joined}
+use Rattle.block_facts.proofs.Blocks.{joined}
+use Rattle.paragraph_rows.proofs.Lists.{twice, same_joined}
 
 -- an item of these spans
 abbrev pub item_of : List (List ℕ) → What-F What Item Note Par → Item

@@ -25,7 +25,8 @@ use Rattle.paragraph_rows.specs.Flat.{has_flat_notes, AreFlat}
 use Rattle.paragraph_rows.specs.Standing.{number_in, AreApart}
 use Rattle.paragraph_rows.proofs.Lists.{each_front, each_behind}
 use Rattle.paragraph_rows.proofs.Opened.{item_of, item_is, par_open}
-use Rattle.paragraph_rows.proofs.Blocks.{par_block, section_block, of_blocks, par_block_rows, par_block_paragraphs, section_block_rows, section_block_paragraphs}
+use Rattle.block_facts.proofs.Blocks.{par_block, section_block, of_blocks, par_reads, section_reads}
+use Rattle.paragraph_rows.proofs.Blocks.{par_block_rows, section_block_rows}
 use Rattle.paragraph_rows.proofs.FlatPars.{IsFlatNote, IsFlatPar, IsFlatBlock, flat_pars}
 use Rattle.paragraph_rows.proofs.NoteRows.{alone_rows, grouped}
 
@@ -86,13 +87,13 @@ kept (block ∷ blocks) known flat more =
 kept_par : (par : Par) → Keeps (par_block par)
 kept_par par flat more =
     ap (λ (rows : List Row). has_flat_notes false (rows ++ more)) (par_block_rows par ∙ par_open par)
-    ∙ flat_texts (notes_of par) more (subst (Each IsFlatPar) (par_block_paragraphs par) flat).0
+    ∙ flat_texts (notes_of par) more (subst (Each IsFlatPar) (par_reads par) flat).0
 
 kept_section : (x : Section-F Block Section) → Each Keeps x.blocks → Keeps (section_block x)
 kept_section x known flat more =
     ap (λ (rows : List Row). has_flat_notes false (rows ++ more)) (section_block_rows x)
     ∙ ap (has_flat_notes false) (append_assoc (rows_of x.blocks) (row.End ∷ []) more)
-    ∙ kept x.blocks known (subst (Each IsFlatPar) (section_block_paragraphs x) flat) (row.End ∷ more)
+    ∙ kept x.blocks known (subst (Each IsFlatPar) (section_reads x) flat) (row.End ∷ more)
 
 pub flat_rows : (doc : Document) → Each IsNote (notes doc) → AreFlat (rows_of doc.body)
 flat_rows doc valid =
@@ -131,15 +132,15 @@ numbers (block ∷ blocks) known flat =
 numbers_par : (par : Par) → Numbers (par_block par)
 numbers_par par flat =
     ap (flat_map number_in) (par_block_rows par ∙ par_open par)
-    ∙ ap (λ (more : List ℕ). number_of par ∷ more) (number_texts (notes_of par) (subst (Each IsFlatPar) (par_block_paragraphs par) flat).0)
+    ∙ ap (λ (more : List ℕ). number_of par ∷ more) (number_texts (notes_of par) (subst (Each IsFlatPar) (par_reads par) flat).0)
     ∙ ap (map number_of) (sym (append-nil (with_notes par)))
-    ∙ ap (λ (pars : List Par). map number_of (flat_map with_notes pars)) (sym (par_block_paragraphs par))
+    ∙ ap (λ (pars : List Par). map number_of (flat_map with_notes pars)) (sym (par_reads par))
 
 numbers_section : (x : Section-F Block Section) → Each Numbers x.blocks → Numbers (section_block x)
 numbers_section x known flat =
     ap (flat_map number_in) (section_block_rows x) ∙ flat_map-append number_in (rows_of x.blocks) (row.End ∷ []) ∙ append-nil (flat_map number_in (rows_of x.blocks))
-    ∙ numbers x.blocks known (subst (Each IsFlatPar) (section_block_paragraphs x) flat)
-    ∙ ap (λ (pars : List Par). map number_of (flat_map with_notes pars)) (sym (section_block_paragraphs x))
+    ∙ numbers x.blocks known (subst (Each IsFlatPar) (section_reads x) flat)
+    ∙ ap (λ (pars : List Par). map number_of (flat_map with_notes pars)) (sym (section_reads x))
 
 pub row_numbers : (doc : Document) → AreFlat (rows_of doc.body) → flat_map number_in (rows_of doc.body) ≡ map number_of (paragraphs doc)
 row_numbers doc flat = numbers doc.body (of_blocks Numbers numbers_par numbers_section doc.body) (flat_pars doc.body flat)

@@ -5,7 +5,7 @@ ghost use Rattle.doc_model.specs.declared.block.Block.TheOpen.{Block-F};
 ghost use Rattle.node_array.specs.Body.{no_level, with_texts, par_of, pars_of};
 ghost use Rattle.row_body.specs.Parts.{par_with};
 
-use crate::stack::Stack;
+use item_stack::Stack;
 use crate::texts::items_with;
 use doc_model::{Block, Item, Par, ParHead};
 use run_text::RunText;

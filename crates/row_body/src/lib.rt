@@ -3,7 +3,6 @@
 
 mod body;
 mod level;
-mod stack;
 mod texts;
 
 pub use body::body_of;

@@ -5,7 +5,7 @@ ghost use Rattle.doc_model.specs.declared.paragraph.What.TheOpen.{What-F};
 ghost use Rattle.node_array.specs.Body.{with_text, texts_behind, with_texts, what_with, texts_left};
 ghost use Rattle.row_body.specs.Parts.{texts_after};
 
-use crate::stack::Stack;
+use item_stack::Stack;
 use doc_model::{Item, Note, Par, What, copy_what};
 use run_text::RunText;
 use sqlite_items::{Boxed, Items};

@@ -29,7 +29,8 @@ use Rattle.paragraph_rows.specs.Flat.{AreFlat}
 use Rattle.paragraph_rows.specs.OwnRow.{bare, own_row, text_rows}
 use Rattle.paragraph_rows.proofs.Lists.{each_front, each_behind}
 use Rattle.paragraph_rows.proofs.Opened.{par_open}
-use Rattle.paragraph_rows.proofs.Blocks.{par_block, section_block, of_blocks, par_block_rows, par_block_paragraphs, section_block_rows, section_block_paragraphs}
+use Rattle.block_facts.proofs.Blocks.{par_block, section_block, of_blocks, par_reads, section_reads}
+use Rattle.paragraph_rows.proofs.Blocks.{par_block_rows, section_block_rows}
 use Rattle.paragraph_rows.proofs.FlatPars.{IsFlatNote, IsFlatPar, IsFlatBlock, flat_pars}
 use Rattle.paragraph_rows.proofs.NoteRows.{alone_rows}
 
@@ -71,15 +72,15 @@ rows_blocks (block ∷ blocks) known flat =
 rows_par : (par : Par) → Rows (par_block par)
 rows_par par flat =
     ap (flat_map par_row) (par_block_rows par ∙ par_open par)
-    ∙ ap (λ (more : List Row). own_row par ∷ more) (rows_texts (notes_of par) (subst (Each IsFlatPar) (par_block_paragraphs par) flat).0)
+    ∙ ap (λ (more : List Row). own_row par ∷ more) (rows_texts (notes_of par) (subst (Each IsFlatPar) (par_reads par) flat).0)
     ∙ ap (map own_row) (sym (append-nil (with_notes par)))
-    ∙ ap (λ (pars : List Par). map own_row (flat_map with_notes pars)) (sym (par_block_paragraphs par))
+    ∙ ap (λ (pars : List Par). map own_row (flat_map with_notes pars)) (sym (par_reads par))
 
 rows_section : (x : Section-F Block Section) → Each Rows x.blocks → Rows (section_block x)
 rows_section x known flat =
     ap (flat_map par_row) (section_block_rows x) ∙ flat_map-append par_row (rows_of x.blocks) (row.End ∷ []) ∙ append-nil (flat_map par_row (rows_of x.blocks))
-    ∙ rows_blocks x.blocks known (subst (Each IsFlatPar) (section_block_paragraphs x) flat)
-    ∙ ap (λ (pars : List Par). map own_row (flat_map with_notes pars)) (sym (section_block_paragraphs x))
+    ∙ rows_blocks x.blocks known (subst (Each IsFlatPar) (section_reads x) flat)
+    ∙ ap (λ (pars : List Par). map own_row (flat_map with_notes pars)) (sym (section_reads x))
 
 -- the rows of paragraphs are those of the paragraphs in reading order
 pub own_rows : (doc : Document) → AreFlat (rows_of doc.body) → flat_map par_row (rows_of doc.body) ≡ map own_row (paragraphs doc)

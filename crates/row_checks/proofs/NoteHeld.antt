@@ -23,7 +23,8 @@ use Rattle.paragraph_rows.specs.OwnRow.{own_row, text_rows}
 use Rattle.paragraph_rows.specs.Standing.{Stands}
 use Rattle.paragraph_rows.proofs.Lists.{each_front, each_behind}
 use Rattle.paragraph_rows.proofs.Opened.{par_open}
-use Rattle.paragraph_rows.proofs.Blocks.{par_block, section_block, of_blocks, par_block_rows, par_block_paragraphs, section_block_rows, section_block_paragraphs}
+use Rattle.block_facts.proofs.Blocks.{par_block, section_block, of_blocks, par_reads, section_reads}
+use Rattle.paragraph_rows.proofs.Blocks.{par_block_rows, section_block_rows}
 use Rattle.paragraph_rows.proofs.FlatPars.{IsFlatNote, IsFlatPar, IsFlatBlock, flat_pars}
 use Rattle.paragraph_rows.proofs.NoteRows.{alone_rows, grouped}
 use Rattle.row_edits.specs.Sound.{is_note_open}
@@ -84,15 +85,15 @@ module _ (par : ParId) where
   held_par : (one : Par) → Held-Block (par_block one)
   held_par one flat more =
       ap (λ (rows : List Row). is_held_in_note par false (rows ++ more)) (par_block_rows one ∙ par_open one)
-      ∙ held_texts (notes_of one) more (subst (Each IsFlatPar) (par_block_paragraphs one) flat).0
-      ∙ ap (λ (some : List Note). list_any has some || is_held_in_note par false more) (sym (append-nil (notes_of one)) ∙ ap (flat_map notes_of) (sym (par_block_paragraphs one)))
+      ∙ held_texts (notes_of one) more (subst (Each IsFlatPar) (par_reads one) flat).0
+      ∙ ap (λ (some : List Note). list_any has some || is_held_in_note par false more) (sym (append-nil (notes_of one)) ∙ ap (flat_map notes_of) (sym (par_reads one)))
 
   held_section : (x : Section-F Block Section) → Each Held-Block x.blocks → Held-Block (section_block x)
   held_section x known flat more =
       ap (λ (rows : List Row). is_held_in_note par false (rows ++ more)) (section_block_rows x)
       ∙ ap (is_held_in_note par false) (append_assoc (rows_of x.blocks) (row.End ∷ []) more)
-      ∙ held_blocks x.blocks known (subst (Each IsFlatPar) (section_block_paragraphs x) flat) (row.End ∷ more)
-      ∙ ap (λ (pars : List Par). list_any has (flat_map notes_of pars) || is_held_in_note par false more) (sym (section_block_paragraphs x))
+      ∙ held_blocks x.blocks known (subst (Each IsFlatPar) (section_reads x) flat) (row.End ∷ more)
+      ∙ ap (λ (pars : List Par). list_any has (flat_map notes_of pars) || is_held_in_note par false more) (sym (section_reads x))
 
   -- rows among which the paragraph isn't
   none_held : (within : Bool) (rows : List Row) → list_any (is_par par) rows ≡ false → is_held_in_note par within rows ≡ false

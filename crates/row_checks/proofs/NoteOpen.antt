@@ -24,7 +24,8 @@ use Rattle.paragraph_rows.specs.OwnRow.{text_rows}
 use Rattle.paragraph_rows.specs.Standing.{AreApart, Stands}
 use Rattle.paragraph_rows.proofs.Lists.{each_front, each_behind}
 use Rattle.paragraph_rows.proofs.Opened.{par_open}
-use Rattle.paragraph_rows.proofs.Blocks.{par_block, section_block, of_blocks, par_block_rows, par_block_paragraphs, section_block_rows, section_block_paragraphs}
+use Rattle.block_facts.proofs.Blocks.{par_block, section_block, of_blocks, par_reads, section_reads}
+use Rattle.paragraph_rows.proofs.Blocks.{par_block_rows, section_block_rows}
 use Rattle.paragraph_rows.proofs.FlatPars.{IsFlatNote, IsFlatPar, IsFlatBlock, flat_pars}
 use Rattle.paragraph_rows.proofs.NoteRows.{alone_rows, grouped}
 use Rattle.paragraph_rows.proofs.Standing.{row_found}
@@ -65,13 +66,13 @@ plain_blocks (block ∷ blocks) known flat more =
 plain_par : (par : Par) → Plain (par_block par)
 plain_par par flat more =
     ap (λ (rows : List Row). is_plain false (rows ++ more)) (par_block_rows par ∙ par_open par)
-    ∙ plain_texts (notes_of par) more (subst (Each IsFlatPar) (par_block_paragraphs par) flat).0
+    ∙ plain_texts (notes_of par) more (subst (Each IsFlatPar) (par_reads par) flat).0
 
 plain_section : (x : Section-F Block Section) → Each Plain x.blocks → Plain (section_block x)
 plain_section x known flat more =
     ap (λ (rows : List Row). is_plain false (rows ++ more)) (section_block_rows x)
     ∙ ap (is_plain false) (append_assoc (rows_of x.blocks) (row.End ∷ []) more)
-    ∙ plain_blocks x.blocks known (subst (Each IsFlatPar) (section_block_paragraphs x) flat) (row.End ∷ more)
+    ∙ plain_blocks x.blocks known (subst (Each IsFlatPar) (section_reads x) flat) (row.End ∷ more)
 
 plain_rows : (body : List Block) → AreFlat (rows_of body) → is_plain false (rows_of body) ≡ true
 plain_rows body flat =

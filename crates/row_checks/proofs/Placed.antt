@@ -18,9 +18,10 @@ use Rattle.node_array.specs.declared.row.SectionHead.{SectionHead as RowHead}
 use Rattle.node_array.specs.Rows.{par_rows, block_rows, rows_of}
 use Rattle.paragraph_rows.specs.Flat.{AreFlat}
 use Rattle.paragraph_rows.specs.OwnRow.{text_rows}
-use Rattle.paragraph_rows.proofs.Lists.{joined, each_front, each_behind}
+use Rattle.paragraph_rows.proofs.Lists.{each_front, each_behind}
 use Rattle.paragraph_rows.proofs.Opened.{par_open}
-use Rattle.paragraph_rows.proofs.Blocks.{par_block, section_block, of_blocks, par_block_rows, par_block_paragraphs, section_block_rows, section_block_paragraphs}
+use Rattle.block_facts.proofs.Blocks.{joined, par_block, section_block, of_blocks, par_reads, section_reads}
+use Rattle.paragraph_rows.proofs.Blocks.{par_block_rows, section_block_rows}
 use Rattle.paragraph_rows.proofs.FlatPars.{IsFlatNote, IsFlatPar, IsFlatBlock, flat_pars}
 use Rattle.paragraph_rows.proofs.NoteRows.{alone_rows, grouped}
 use Rattle.row_facts.specs.Around.{Opened, PlacedRow, sections_open, paragraphs_placed}
@@ -91,14 +92,14 @@ places_blocks (block ∷ blocks) known flat opened more =
 places_par : (par : Par) → Places (par_block par)
 places_par par flat opened more =
     ap (λ (rows : List Row). paragraphs_placed opened (rows ++ more)) (par_block_rows par ∙ par_open par)
-    ∙ ap (λ (placed : List PlacedRow). here opened par ∷ placed) (placed_texts opened (notes_of par) more (subst (Each IsFlatPar) (par_block_paragraphs par) flat).0)
+    ∙ ap (λ (placed : List PlacedRow). here opened par ∷ placed) (placed_texts opened (notes_of par) more (subst (Each IsFlatPar) (par_reads par) flat).0)
     ∙ ap (λ (placed : List PlacedRow). placed ++ paragraphs_placed opened more) (unplaced_here opened (with_notes par) ∙ ap (map (within_opened opened)) (sym (placed_par par)))
 
 places_section : (x : Section-F Block Section) → Each Places x.blocks → Places (section_block x)
 places_section x known flat opened more =
     ap (λ (rows : List Row). paragraphs_placed opened (rows ++ more)) (section_block_rows x)
     ∙ ap (paragraphs_placed (Some (row_head (head_of x)) ∷ opened)) (append_assoc (rows_of x.blocks) (row.End ∷ []) more)
-    ∙ places_blocks x.blocks known (subst (Each IsFlatPar) (section_block_paragraphs x) flat) (Some (row_head (head_of x)) ∷ opened) (row.End ∷ more)
+    ∙ places_blocks x.blocks known (subst (Each IsFlatPar) (section_reads x) flat) (Some (row_head (head_of x)) ∷ opened) (row.End ∷ more)
     ∙ ap (λ (placed : List PlacedRow). placed ++ paragraphs_placed opened more)
     (within_section opened (head_of x) (flat_map placed_in x.blocks) ∙ ap (map (within_opened opened)) (sym (placed_section x)))
 

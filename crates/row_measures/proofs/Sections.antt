@@ -23,9 +23,10 @@ use Rattle.node_array.specs.declared.row.SectionHead.{SectionHead as RowHead}
 use Rattle.node_array.specs.Rows.{par_rows, block_rows, rows_of}
 use Rattle.paragraph_rows.specs.Flat.{AreFlat}
 use Rattle.paragraph_rows.specs.OwnRow.{text_rows}
-use Rattle.paragraph_rows.proofs.Lists.{joined, filter_map, each_front, each_behind}
+use Rattle.paragraph_rows.proofs.Lists.{filter_map, each_front, each_behind}
 use Rattle.paragraph_rows.proofs.Opened.{par_open}
-use Rattle.paragraph_rows.proofs.Blocks.{par_block, section_block, of_blocks, par_block_rows, par_block_paragraphs, in_par_block, section_block_rows, section_block_paragraphs, in_section_block}
+use Rattle.block_facts.proofs.Blocks.{joined, par_block, section_block, of_blocks, par_reads, par_changes, section_reads, section_changes}
+use Rattle.paragraph_rows.proofs.Blocks.{par_block_rows, section_block_rows}
 use Rattle.paragraph_rows.proofs.FlatPars.{IsFlatNote, IsFlatPar, IsFlatBlock, flat_pars}
 use Rattle.paragraph_rows.proofs.NoteRows.{alone_rows}
 use Rattle.row_facts.specs.Paragraphs.{section_in, row_head}
@@ -59,17 +60,17 @@ module _ (change : Par → Par) where
 
   leaves_par : (par : Par) → Leaves (par_block par)
   leaves_par par = (
-    ap block_sections (in_par_block change par) ∙ par_sections (in_paragraph change par) ∙ sym (par_sections par),
-    ap depth_of (in_par_block change par) ∙ par_depth (in_paragraph change par) ∙ sym (par_depth par),
+    ap block_sections (par_changes change par) ∙ par_sections (in_paragraph change par) ∙ sym (par_sections par),
+    ap depth_of (par_changes change par) ∙ par_depth (in_paragraph change par) ∙ sym (par_depth par),
   )
 
   leaves_section : (x : Section-F Block Section) → Each Leaves x.blocks → Leaves (section_block x)
   leaves_section x known =
       let later : Section-F Block Section = record x { blocks = map (in_block change) x.blocks } in
       let count : length (map (in_block change) x.blocks) ≡ length x.blocks = length-map x.blocks (in_block change) in (
-        ap block_sections (in_section_block change x) ∙ section_sections later
+        ap block_sections (section_changes change x) ∙ section_sections later
             ∙ ap₂ (λ (n : ℕ) (more : List SectionHead). record (head_of x) { blocks = n } ∷ more) count (same_sections x.blocks known) ∙ sym (section_sections x),
-        ap depth_of (in_section_block change x) ∙ section_depth later ∙ ap (λ (depths : List ℕ). 1 + fold max 0 depths) (same_depths x.blocks known) ∙ sym (section_depth x),
+        ap depth_of (section_changes change x) ∙ section_depth later ∙ ap (λ (depths : List ℕ). 1 + fold max 0 depths) (same_depths x.blocks known) ∙ sym (section_depth x),
       )
 
 pub sections_left : (doc : Document) (change : Par → Par) → sections (in_document change doc) ≡ sections doc
@@ -108,14 +109,14 @@ begun_blocks (block ∷ blocks) known flat =
 
 begun_par : (par : Par) → Begun (par_block par)
 begun_par par flat =
-    ap (flat_map section_in) (par_block_rows par ∙ par_open par) ∙ no_section (notes_of par) (subst (Each IsFlatPar) (par_block_paragraphs par) flat).0
+    ap (flat_map section_in) (par_block_rows par ∙ par_open par) ∙ no_section (notes_of par) (subst (Each IsFlatPar) (par_reads par) flat).0
     ∙ ap (map row_head) (sym (par_sections par))
 
 begun_section : (x : Section-F Block Section) → Each Begun x.blocks → Begun (section_block x)
 begun_section x known flat =
     ap (flat_map section_in) (section_block_rows x)
     ∙ ap (λ (more : List RowHead). row_head (head_of x) ∷ more)
-    (flat_map-append section_in (rows_of x.blocks) (row.End ∷ []) ∙ append-nil (flat_map section_in (rows_of x.blocks)) ∙ begun_blocks x.blocks known (subst (Each IsFlatPar) (section_block_paragraphs x) flat))
+    (flat_map-append section_in (rows_of x.blocks) (row.End ∷ []) ∙ append-nil (flat_map section_in (rows_of x.blocks)) ∙ begun_blocks x.blocks known (subst (Each IsFlatPar) (section_reads x) flat))
     ∙ ap (map row_head) (sym (section_sections x))
 
 pub sections_begun : (doc : Document) → AreFlat (rows_of doc.body) → flat_map section_in (rows_of doc.body) ≡ map row_head (sections doc)

@@ -25,7 +25,8 @@ use Rattle.section_rows.proofs.Unwrap.{notes_same}
 use Rattle.paragraph_rows.specs.Flat.{has_flat_notes, AreFlat}
 use Rattle.paragraph_rows.proofs.Lists.{each_front, each_behind}
 use Rattle.paragraph_rows.proofs.Opened.{par_open}
-use Rattle.paragraph_rows.proofs.Blocks.{par_block, section_block, of_blocks, par_block_rows, par_block_paragraphs, section_block_rows, section_block_paragraphs}
+use Rattle.block_facts.proofs.Blocks.{par_block, section_block, of_blocks, par_reads, section_reads}
+use Rattle.paragraph_rows.proofs.Blocks.{par_block_rows, section_block_rows}
 use Rattle.paragraph_rows.proofs.FlatPars.{IsFlatPar, IsFlatBlock, flat_pars}
 use Rattle.paragraph_rows.proofs.ValidRows.{flat_texts, row_numbers}
 use Rattle.row_edits.specs.Sound.{IsSound}
@@ -45,13 +46,13 @@ all_keep (block ∷ blocks) known flat more =
 par_keeps : (par : Par) → Keeps (par_block par)
 par_keeps par flat more =
     ap (λ (rows : List Row). has_flat_notes false (rows ++ more)) (par_block_rows par ∙ par_open par)
-    ∙ flat_texts (notes_of par) more (subst (Each IsFlatPar) (par_block_paragraphs par) flat).0
+    ∙ flat_texts (notes_of par) more (subst (Each IsFlatPar) (par_reads par) flat).0
 
 section_keeps : (x : Section-F Block Section) → Each Keeps x.blocks → Keeps (section_block x)
 section_keeps x known flat more =
     ap (λ (rows : List Row). has_flat_notes false (rows ++ more)) (section_block_rows x)
     ∙ ap (has_flat_notes false) (append_assoc (rows_of x.blocks) (row.End ∷ []) more)
-    ∙ all_keep x.blocks known (subst (Each IsFlatPar) (section_block_paragraphs x) flat) (row.End ∷ more)
+    ∙ all_keep x.blocks known (subst (Each IsFlatPar) (section_reads x) flat) (row.End ∷ more)
 
 pub flat_body : (body : List Block) → Each IsFlatPar (flat_map block_paragraphs body) → AreFlat (rows_of body)
 flat_body body flat = ap (has_flat_notes false) (sym (append-nil (rows_of body))) ∙ all_keep body (of_blocks Keeps par_keeps section_keeps body) flat []
@@ -104,13 +105,13 @@ module _ (name : List ℕ) where
 
   left_pars : (x : Section-F Block Section) (test : Bool) → flat_map block_paragraphs (if test then x.blocks else section_block x ∷ []) ≡ flat_map block_paragraphs x.blocks
   left_pars x true = refl
-  left_pars x false = append-nil (block_paragraphs (section_block x)) ∙ section_block_paragraphs x
+  left_pars x false = append-nil (block_paragraphs (section_block x)) ∙ section_reads x
 
   section_same : (x : Section-F Block Section) → Each Same x.blocks → Same (section_block x)
   section_same x known =
       ap (flat_map block_paragraphs) (left_section x)
       ∙ left_pars (with_blocks x (flat_map left x.blocks)) (bytes_eq x.name name)
-      ∙ all_same x.blocks known ∙ sym (section_block_paragraphs x)
+      ∙ all_same x.blocks known ∙ sym (section_reads x)
 
   pub body_same : (body : List Block) → flat_map block_paragraphs (flat_map (unwrapped name) (map (within_block (flat_map (unwrapped name))) body)) ≡ flat_map block_paragraphs body
   body_same body =

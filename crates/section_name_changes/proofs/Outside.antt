@@ -23,7 +23,8 @@ use Rattle.node_array.specs.Rows.{par_rows, block_rows, rows_of}
 use Rattle.paragraph_rows.specs.OwnRow.{own_row, text_rows}
 use Rattle.paragraph_rows.specs.Standing.{number_in}
 use Rattle.paragraph_rows.proofs.Opened.{par_open}
-use Rattle.paragraph_rows.proofs.Blocks.{par_block, section_block, section_head, of_block, par_block_rows, section_block_rows}
+use Rattle.block_facts.proofs.Blocks.{par_block, section_block, of_block}
+use Rattle.paragraph_rows.proofs.Blocks.{section_head, par_block_rows, section_block_rows}
 use Rattle.row_checks.proofs.NoteHeld.{open_row}
 use Rattle.row_edits.specs.Sound.{AreSound, is_note_open}
 use Rattle.names_change.proofs.Lead.{Pairs}

@@ -15,7 +15,7 @@ use Rattle.doc_model.specs.Reading.{block_paragraphs}
 use Rattle.edit_rules.specs.Blocks.{with_section_set}
 use Rattle.edit_rules.specs.Edited.{edited_document}
 use Rattle.name_index.specs.Scan.{names_of}
-use Rattle.paragraph_rows.proofs.Blocks.{par_block, section_block, of_blocks, section_block_paragraphs}
+use Rattle.block_facts.proofs.Blocks.{par_block, section_block, of_blocks, section_reads}
 use Rattle.names_change.proofs.Lead.{Pairs}
 use Rattle.names_change.proofs.SectionStarts.{numbers_in, sections_in, section_numbers, section_sections}
 use Rattle.names_change.proofs.ByKind.{all_same}
@@ -56,8 +56,8 @@ module _ (name : List ℕ) (protected hidden : Bool) where
   all_sections (block ∷ blocks) known = ap₂ (λ (a b : Pairs). a ++ b) known.0.sections (all_sections blocks known.1)
 
   layer_pars : (test : Bool) (x : Section-F Block Section) (blocks : List Block) → block_paragraphs (section_block (layer test x blocks)) ≡ flat_map block_paragraphs blocks
-  layer_pars true x blocks = section_block_paragraphs (layer true x blocks)
-  layer_pars false x blocks = section_block_paragraphs (layer false x blocks)
+  layer_pars true x blocks = section_reads (layer true x blocks)
+  layer_pars false x blocks = section_reads (layer false x blocks)
 
   layer_numbers : (test : Bool) (x : Section-F Block Section) (blocks : List Block) → numbers_in (section_block (layer test x blocks)) ≡ flat_map numbers_in blocks
   layer_numbers true x blocks = section_numbers (layer true x blocks)
@@ -72,7 +72,7 @@ module _ (name : List ℕ) (protected hidden : Bool) where
   section_stays x known =
       let test : Bool = bytes_eq x.name name in
       record {
-        pars = ap block_paragraphs (section_set x) ∙ layer_pars test x (map set x.blocks) ∙ all_pars x.blocks known ∙ sym (section_block_paragraphs x);
+        pars = ap block_paragraphs (section_set x) ∙ layer_pars test x (map set x.blocks) ∙ all_pars x.blocks known ∙ sym (section_reads x);
         numbers = ap numbers_in (section_set x) ∙ layer_numbers test x (map set x.blocks) ∙ all_numbers x.blocks known ∙ sym (section_numbers x);
         sections =
             ap sections_in (section_set x) ∙ layer_sections test x (map set x.blocks)

@@ -17,7 +17,7 @@ use Rattle.edit_rules.specs.Edited.{edited_document}
 use Rattle.name_index.specs.declared.names.NameKind.TheVariants as kinds
 use Rattle.name_index.specs.Names.{Sets}
 use Rattle.name_index.specs.Scan.{section_names, names_of}
-use Rattle.paragraph_rows.proofs.Blocks.{par_block, section_block, of_blocks}
+use Rattle.block_facts.proofs.Blocks.{par_block, section_block, of_blocks}
 use Rattle.rows_stay_sound.proofs.Unwrapped.{left, left_par, left_section, with_blocks, body_same}
 use Rattle.names_change.proofs.SectionStarts.{par_sections}
 use Rattle.names_change.proofs.Lead.{Pairs, lead}

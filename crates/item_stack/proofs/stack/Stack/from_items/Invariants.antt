@@ -1,5 +1,5 @@
 use Rattle.std.proofs.Common.{◌≡◌, ◌++◌, length}
-use Rattle.doc_numbers.proofs.stack.Stack.of_items.Given as goal
+use Rattle.item_stack.proofs.stack.Stack.from_items.Given as goal
 
 abbrev pub invariant-items : goal.invariant-items
 invariant-items g l = l.items ++ l.stack ≡ l.fn.items

@@ -1,4 +1,4 @@
--- What holds of each block.
+-- Blocks, one level deep, and what holds of each.
 use Rattle.std.proofs.Common.{◌≡◌, List, [], ◌∷◌, ◌++◌, map, refl, ap, subst, ◌∙◌}
 use Rattle.std.specs.List.{flat_map, AllByRecursion as Each}
 use Rattle.doc_model.specs.declared.block.Block.{Block, roll-Block}
@@ -9,6 +9,7 @@ use Rattle.doc_model.specs.declared.paragraph.Par.{Par}
 use Rattle.doc_model.specs.Reading.{block_paragraphs}
 use Rattle.doc_model.specs.Alike.{in_paragraph, in_block}
 
+-- a paragraph as a block
 abbrev pub par_block : Par → Block
 par_block par = roll-Block (Block-F.Par par)
 
@@ -48,7 +49,7 @@ module _ (P : Block → Type 0) (of_par : (par : Par) → P (par_block par)) (of
   of_blocks (block ∷ blocks) = (of_block block, of_blocks blocks)
 
 -- lists that are joined before or behind a map
-joined : {X Y : Type 0} (f : X → List Y) (xs : List X) → flat_map (λ ys. ys) (map f xs) ≡ flat_map f xs
+pub joined : {X Y : Type 0} (f : X → List Y) (xs : List X) → flat_map (λ ys. ys) (map f xs) ≡ flat_map f xs
 joined f [] = refl
 joined f (x ∷ xs) = ap (λ more. f x ++ more) (joined f xs)
 
