@@ -3,4 +3,4 @@
 
 mod laws;
 
-pub use laws::{paragraphs_are_read, paragraphs_are_changed};
+pub use laws::{paragraphs_are_changed, paragraphs_are_read};

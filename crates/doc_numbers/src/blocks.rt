@@ -8,8 +8,8 @@ ghost use Rattle.load_model.specs.Loaded.{numbered};
 ghost use Rattle.doc_numbers.specs.Numbering.{Follow, block_pars};
 
 use crate::paragraphs::number_par;
-use item_stack::Stack;
 use doc_model::{Block, Document, List, Section};
+use item_stack::Stack;
 use sqlite_items::Items;
 use std::alloc::{AllocError, Global};
 

@@ -9,8 +9,8 @@ ghost use Rattle.doc_model.specs.Reading.{with_notes};
 ghost use Rattle.load_model.specs.Loaded.{at_most_ten, numbered};
 ghost use Rattle.doc_numbers.specs.Numbering.{Follow, with_number, note_pars, what_pars, in_text, in_what, is_note, is_note_what};
 
-use item_stack::Stack;
 use doc_model::{Item, ListPos, Note, Par, ParId, What};
+use item_stack::Stack;
 use sqlite_items::{Boxed, Items};
 use std::alloc::{AllocError, Global};
 

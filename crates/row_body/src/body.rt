@@ -6,8 +6,8 @@ ghost use Rattle.node_array.specs.Body.{read_row, put_block, put_texts};
 ghost use Rattle.row_body.specs.Parts.{section_with};
 
 use crate::level::Level;
-use item_stack::Stack;
 use doc_model::{Block, Item, List, Par, ParHead, Section};
+use item_stack::Stack;
 use node_array::{NodeArray, Row, SectionHead};
 use run_text::RunText;
 use sqlite_items::Items;

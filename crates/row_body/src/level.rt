@@ -5,9 +5,9 @@ ghost use Rattle.doc_model.specs.declared.block.Block.TheOpen.{Block-F};
 ghost use Rattle.node_array.specs.Body.{no_level, with_texts, par_of, pars_of};
 ghost use Rattle.row_body.specs.Parts.{par_with};
 
-use item_stack::Stack;
 use crate::texts::items_with;
 use doc_model::{Block, Item, Par, ParHead};
+use item_stack::Stack;
 use run_text::RunText;
 use sqlite_items::Items;
 use std::alloc::{AllocError, Global};

@@ -5,8 +5,8 @@ ghost use Rattle.doc_model.specs.declared.paragraph.What.TheOpen.{What-F};
 ghost use Rattle.node_array.specs.Body.{with_text, texts_behind, with_texts, what_with, texts_left};
 ghost use Rattle.row_body.specs.Parts.{texts_after};
 
-use item_stack::Stack;
 use doc_model::{Item, Note, Par, What, copy_what};
+use item_stack::Stack;
 use run_text::RunText;
 use sqlite_items::{Boxed, Items};
 use std::alloc::{AllocError, Global};
