@@ -22,6 +22,14 @@ pub all_of_pairs : {X : Type 0} (R : X → X → Type 0) (xs : List X) → Pairs
 all_of_pairs R [] h = λ i j d l m. absurd (omega (arith, l, m))
 all_of_pairs R (x ∷ xs) h = AllPairs-cons R x xs (All-from_recursion (R x) xs h.0) (all_of_pairs R xs h.1)
 
+last_of : {X : Type 0} (P : X → Type 0) (xs : List X) (y : X) → Each P (xs ++ y ∷ []) → P y
+last_of P [] y h = h.0
+last_of P (x ∷ xs) y h = last_of P xs y h.1
+
+pub last_pair : {X : Type 0} (R : X → X → Type 0) (xs : List X) (y : X) → Pairs R (xs ++ y ∷ []) → Each (λ x. R x y) xs
+last_pair R [] y h = tt
+last_pair R (x ∷ xs) y h = (last_of (R x) xs y h.0, last_pair R xs y h.1)
+
 -- the first list is left of the second
 abbrev pub IsPart : {X : Type 0} → List X → List X → Type 0
 IsPart [] xs = Unit {0}
@@ -34,6 +42,10 @@ part_skip x (y ∷ ys) xs h = inr h
 
 pub part_keep : {X : Type 0} (x : X) (ys xs : List X) → IsPart ys xs → IsPart (x ∷ ys) (x ∷ xs)
 part_keep x ys xs h = inl (refl, h)
+
+pub part_front : {X : Type 0} (xs ys : List X) → IsPart xs (xs ++ ys)
+part_front [] ys = tt
+part_front (x ∷ xs) ys = inl (refl, part_front xs ys)
 
 pub part_append : {X : Type 0} (ys xs zs ws : List X) → IsPart ys xs → IsPart zs ws → IsPart (ys ++ zs) (xs ++ ws)
 part_append [] [] zs ws h k = k
