@@ -1,7 +1,7 @@
 -- The sections that are kept.
-use Rattle.std.proofs.Common.{◌≡◌, ◌≢◌, ◌<◌, ◌≤◌, ◌+◌, ◌-◌, ℕ, suc, Bool, true, false, cond, List, [], ◌∷◌, ◌++◌, map, filter, length, take, drop, get_or, refl, sym, ap, ap₂, ◌∙◌, arith, Option, Some, None}
+use Rattle.std.proofs.Common.{◌≡◌, ◌≢◌, ◌<◌, ◌≤◌, ◌+◌, ◌-◌, ℕ, zero, suc, Bool, true, false, cond, List, [], ◌∷◌, map, filter, length, take, drop, get_or, refl, sym, ap, ap₂, ◌∙◌, arith, Option, Some, None}
 use Rattle.std.specs.List.{cons_option}
-use Rattle.std.proofs.lemmas.List.{drop_more}
+use Rattle.std.proofs.lemmas.List.{drop_more, drop_all}
 use Rattle.std.proofs.lemmas.List.Elements.{filter_agree}
 use Rattle.std.specs.Str.{bytes_eq}
 use Rattle.load_model.specs.Met.{Met, MetSection, Section, Note, Reference, Mark, Sequence, Variable, Table, sections_met, kept_sections, is_at}
@@ -9,7 +9,7 @@ use Rattle.met_read.specs.declared.things.Met.{Met as Read}
 use Rattle.met_read.specs.Read.{met_of, outlined}
 use Rattle.kept_names.specs.Places.{AreSame}
 use Rattle.section_faults.specs.Nested.{AreApart}
-use Rattle.section_faults.specs.Sections.{section_in, kept_place, kept_places}
+use Rattle.section_faults.specs.Sections.{kept_place, kept_places}
 use Rattle.section_faults.proofs.PartLemmas.{pairs_of_all, part_firsts, those_at}
 
 abbrev pub place_of : MetSection → ℕ
@@ -79,3 +79,9 @@ module _ (limit : ℕ) (kept : List ℕ) (met : List Read) (at : ℕ) (d : Read)
   found_here place is many =
       let e : limit - before ≡ 0 = omega (arith, many) in
       sym (ap₂ (λ n (some : List ℕ). take 1 (drop n some)) e (opened (Some place) is)) ∙ rest
+
+pub none_left : (count : ℕ) (kept : List ℕ) (met : List Read) (at : ℕ) (all : List ℕ) → length met ≤ at → take 1 (drop count (kept_places kept (map met_of (drop at met)))) ≡ all → [] ≡ all
+none_left count kept met at all l rest = sym (none count) ∙ sym (ap (λ (some : List Read). take 1 (drop count (kept_places kept (map met_of some)))) (drop_all at met l)) ∙ rest where
+  none : (n : ℕ) → ◌≡◌ {A = List ℕ} (take 1 (drop n [])) []
+  none zero = refl
+  none (suc n) = refl

@@ -1,5 +1,5 @@
 -- Lists that are what is left of others when some of their items are taken out.
-use Rattle.std.proofs.Common.{◌≡◌, ◌≢◌, ◌<◌, ℕ, zero, suc, ◌==◌, ◌||◌, ◌⊎◌, inl, inr, Bool, true, false, cond, List, [], ◌∷◌, ◌++◌, map, filter, length, AllPairs, refl, sym, ap, ap₂, ◌∙◌, subst, arith, eq-eqb, ne_eqb}
+use Rattle.std.proofs.Common.{◌≡◌, ◌≢◌, ℕ, zero, suc, ◌||◌, not, ◌⊎◌, inl, inr, Bool, true, false, cond, List, [], ◌∷◌, ◌++◌, map, filter, AllPairs, refl, sym, ap, ap₂, ◌∙◌, subst, arith, eq-eqb, ne_eqb}
 use Rattle.std.specs.List.{AllByRecursion as Each}
 use Rattle.std.proofs.lemmas.List.Elements.{All-from_recursion, recursion_from_All}
 use Rattle.std.proofs.lemmas.List.Kept.{AllPairs-cons}
@@ -82,7 +82,7 @@ part_pairs {X} R (y ∷ ys) (x ∷ xs) h all = elim h [
 -- first ones are left of all
 pub part_firsts : {X : Type 0} (same : X → X → Bool) (xs : List X) → IsPart (firsts same xs) xs
 part_firsts same [] = tt
-part_firsts same (x ∷ xs) = inl (refl, part_filter (λ other. Rattle.std.specs.Prelude.not (same x other)) (firsts same xs) xs (part_firsts same xs))
+part_firsts same (x ∷ xs) = inl (refl, part_filter (λ other. not (same x other)) (firsts same xs) xs (part_firsts same xs))
 
 -- where no two are at one place, those at the places of some are these
 module _ {X : Type 0} (place : X → ℕ) where

@@ -1,5 +1,5 @@
 -- How many more sections can stand in those that are met.
-use Rattle.std.proofs.Common.{◌≡◌, ◌≢◌, ◌<◌, ◌≤◌, ◌+◌, ◌-◌, ◌==◌, ◌&&◌, ◌⊎◌, inl, inr, ℕ, zero, suc, nat_le, nat_eq, Bool, true, false, cond, List, [], ◌∷◌, ◌++◌, map, filter, length, take, get_or, All, Any, slice_get, refl, sym, ap, ap₂, ◌∙◌, subst, arith, append_assoc, append-nil, Option, Some, None, option_to_list, unwrap_or, eq-eqb, ne_eqb, leb-true, leb-false}
+use Rattle.std.proofs.Common.{◌≡◌, ◌≢◌, ◌<◌, ◌≤◌, ◌+◌, ◌-◌, ◌==◌, ◌&&◌, inl, inr, ℕ, nat_le, nat_eq, Bool, true, false, cond, List, [], ◌∷◌, ◌++◌, map, filter, length, take, get_or, All, slice_get, refl, sym, ap, ap₂, ◌∙◌, subst, arith, append_assoc, Option, Some, None, option_to_list, unwrap_or, eq-eqb, ne_eqb, leb-true, leb-false}
 use Rattle.std.specs.List.{filter_map, AllByRecursion as Each}
 use Rattle.std.proofs.lemmas.List.{length-append, map-append, take_more, take_all, get_or-map, length-map}
 use Rattle.std.proofs.lemmas.List.Elements.{filter-append, filter_agree, filter_map-append, All-nil, All-push, All-from_recursion, recursion_from_All}
@@ -9,11 +9,11 @@ use Rattle.met_read.specs.declared.things.Met.{Met as Read}
 use Rattle.met_read.specs.Read.{last, met_of, outlined}
 use Rattle.met_read.proofs.WalkLemmas.{last_behind}
 use Rattle.kept_names.specs.Places.{AreSame}
-use Rattle.section_faults.specs.Nested.{AreApart, AreNested, StandsIn, IsNested}
+use Rattle.section_faults.specs.Nested.{AreNested, StandsIn, IsNested}
 use Rattle.section_faults.specs.Rooms.{depth, kept_among, room_within, room_in, room_at, is_deep, Holds, Follows}
 use Rattle.section_faults.specs.Sections.{outline, section_in}
 use Rattle.section_faults.proofs.KeptLemmas.{place_of, kept_at}
-use Rattle.section_faults.proofs.PartLemmas.{Pairs, pairs_of_all, all_of_pairs, part_front, part_pairs, last_pair}
+use Rattle.section_faults.proofs.PartLemmas.{pairs_of_all, all_of_pairs, part_front, part_pairs, last_pair}
 
 abbrev Differ : MetSection → MetSection → Type 0
 Differ section other = section.place ≢ other.place

@@ -16,11 +16,7 @@ use met_read::{Met, MetSection};
 use std::alloc::{AllocError, Global};
 
 /// The places of the kept sections that stand in too many others, where all that are met are nested.
-pub fn deep_sections(
-    alloc: Global,
-    kept: &Kept,
-    met: &[Met<'_>],
-) -> Result<Vec<u32>, AllocError>
+pub fn deep_sections(alloc: Global, kept: &Kept, met: &[Met<'_>]) -> Result<Vec<u32>, AllocError>
     ensures { IfOk result (λ places. (all : List model.Met) → map met_of met.now ≡ map outlined all → IsSame kept.now (model.kept_of all) → IsNested all → places.items ≡ too_deep all) }
 {
     let mut rooms = IndexMap::new(alloc);
@@ -85,7 +81,11 @@ fn is_deep(is_kept: bool, room: u32) -> bool
 fn room_inside(is_kept: bool, room: u32) -> u32
     ensures { result ≡ room - (if is_kept then 1 else 0) }
 {
-    if is_kept { room.saturating_sub(1) } else { room }
+    if is_kept {
+        room.saturating_sub(1)
+    } else {
+        room
+    }
 }
 
 // Adds a place, where this holds.

@@ -1,7 +1,7 @@
-use Rattle.std.proofs.Common.{◌∙◌, ◌++◌, [], List, ap, sym, nat_eq, subst, append-nil}
+use Rattle.std.proofs.Common.{◌∙◌, ◌++◌, List, ap, sym, nat_eq, subst, append-nil}
 use Rattle.std.proofs.lemmas.Result.{on_ok_weaker}
 use Rattle.indexmap.specs.IndexMap.{get}
-use Rattle.load_model.specs.Met.{MetSection, sections_met}
+use Rattle.load_model.specs.Met.{MetSection}
 use Rattle.met_read.specs.Read.{section_of}
 use Rattle.section_faults.specs.Rooms.{Follows}
 use Rattle.section_faults.specs.Sections.{section_in}

@@ -1,6 +1,6 @@
 use Rattle.std.proofs.Common.{nat_eq}
 use Rattle.indexmap.specs.IndexMap.{get}
-use Rattle.section_faults.proofs.RoomLemmas.{follows_none, next_follows, all_follow, deep_are}
+use Rattle.section_faults.proofs.RoomLemmas.{next_follows, all_follow, deep_are}
 use Rattle.section_faults.proofs.depth.deep_sections.Goals as goal
 
 pub met-preserved : goal.met-preserved
