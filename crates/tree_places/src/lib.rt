@@ -1,9 +1,6 @@
-//! The places of the elements of a file, in its order. Laws of definitions; the functions do nothing.
+//! The places of the elements of a file, which come in its order. Laws of definitions; the functions do nothing.
 #![tactic(auto)]
 
 mod laws;
 
-pub use laws::{
-    bad_names_rise, declarations_rise, paragraphs_are_apart, resolved_trees_are_in_order,
-    spelled_trees_are_in_order,
-};
+pub use laws::{bad_names_rise, resolved_trees_are_in_order, spelled_trees_are_in_order};
