@@ -81,12 +81,12 @@ module _ (place : ℕ) (rest : List ℕ) where
     closed : Spot
     closed = with_events (part_within spot.open_names) spot.open_names (spot.events ++ Opens place tag.name tag.attrs ∷ Closes ∷ [])
 
-    open : Spot
-    open = with_events Inside (tag.name ∷ spot.open_names) (spot.events ++ Opens place tag.name tag.attrs ∷ [])
+    holding : Spot
+    holding = with_events Inside (tag.name ∷ spot.open_names) (spot.events ++ Opens place tag.name tag.attrs ∷ [])
 
-    by_end : (b : Bool) → Some (cond b closed open) ≡ Some next → Steps place spot rest next
+    by_end : (b : Bool) → Some (cond b closed holding) ≡ Some next → Steps place spot rest next
     by_end true e = steps_to spot closed next (opens spot (part_within spot.open_names) spot.open_names tag.name tag.attrs (Closes ∷ []) refl) e
-    by_end false e = steps_to spot open next (opens spot Inside (tag.name ∷ spot.open_names) tag.name tag.attrs [] refl) e
+    by_end false e = steps_to spot holding next (opens spot Inside (tag.name ∷ spot.open_names) tag.name tag.attrs [] refl) e
 
   none_some : {A : Type 0} {x : A} → None ≡ Some x → ⊥
   none_some e = cc
