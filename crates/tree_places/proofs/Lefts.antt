@@ -7,13 +7,12 @@ use Rattle.markup_parts.specs.Chars.{is_legal}
 use Rattle.markup_parts.specs.Outcomes.{Construct}
 use Rattle.markup_parts.specs.Constructs.{IsRun, IsName, IsGap, IsSpace, IsText, IsLiteral, IsNumber, IsEntity, IsNumeric, IsReference, IsUpTo, IsComment}
 use Rattle.markup_nodes.specs.declared.words.Attr.{Attr}
-use Rattle.markup_tags.specs.declared.tags.Tag.{Tag}
 use Rattle.markup_tags.specs.Instructions.{IsInstructionRest, IsInstruction, IsFirstInstruction}
-use Rattle.markup_tags.specs.Tags.{IsValueChar, IsValuePart, IsValue, IsOpening, IsEquals, IsAttributeRest, IsAttribute, AreAttributes, IsTagEnd, IsTagRest, IsTag, IsEndTag}
+use Rattle.markup_tags.specs.Tags.{IsValueChar, IsValuePart, IsEquals, IsAttributeRest, IsAttribute, AreAttributes, IsTagEnd, IsTag, IsEndTag}
 use Rattle.markup_tree.specs.declared.part.Part.{Part}
 use Rattle.markup_tree.specs.declared.part.Part.TheVariants.{Start, Before, Inside, After}
 use Rattle.markup_tree.specs.Documents.{byte_count}
-use Rattle.markup_tree.specs.Pieces.{Saying, Begins, Ends, Holds, Declares, line_ends, Behind, ◌or◌, silent, Nowhere, IsBracket, IsOther, IsBlank, IsPlain, IsSkipped, IsSpecial, IsElementTag, IsMarkup, IsConstruct}
+use Rattle.markup_tree.specs.Pieces.{Saying, Begins, Ends, Holds, Declares, line_ends, Behind, ◌or◌, silent, IsPlain, IsSkipped, IsSpecial, IsElementTag, IsMarkup, IsConstruct}
 
 through : (a b c : ℕ) → a ≤ b → b ≤ c → a ≤ c
 through a b c l m = omega (arith, l, m)

@@ -13,7 +13,7 @@ use Rattle.load_model.specs.declared.element.Element.{Element as Read}
 use Rattle.load_model.specs.Names.{Binding, bindings_within, has_bad_names, tag_of, element_name, resolved_attribute, resolved_in, resolved, bad_places_around, places_of_bad_names}
 use Rattle.expanded_names.proofs.TreeLemmas.{read_node, resolved_out}
 use Rattle.tree_places.specs.Order.{places_in, IsInOrder, tag_places, AreTagsInOrder}
-use Rattle.tree_places.proofs.Within.{Within, within_self, within_behind, within_append, within_each, within_is, within_all, Pairs, pairs_of, all_pairs, pairs_within, pairs_weaker}
+use Rattle.tree_places.proofs.Within.{Within, within_self, within_append, within_each, within_is, within_all, pairs_of, all_pairs, pairs_within, pairs_weaker}
 use Rattle.tree_places.proofs.Trees.{every_elem, tags_out, places_rolled}
 
 -- the places of a tree are those of its tags

@@ -1,6 +1,5 @@
 -- The tags of a tree that is spelled, in the order of its text.
-use Rattle.std.proofs.Common.{◌≡◌, ◌⊎◌, ◌<◌, ◌≤◌, ◌-◌, ◌==◌, ℕ, nat_lt, Bool, true, false, cond, List, [], ◌∷◌, ◌++◌, map, length, refl, sym, ap, ap₂, ◌∙◌, subst, inl, inr, chars, bytes_eq, append-nil, arith, Option, Some, None}
-use Rattle.std.specs.Prelude.{AllPairs}
+use Rattle.std.proofs.Common.{◌≡◌, ◌⊎◌, ◌<◌, ◌≤◌, ◌-◌, ◌==◌, ℕ, nat_lt, Bool, true, false, cond, List, [], ◌∷◌, ◌++◌, map, length, refl, sym, ap, ap₂, ◌∙◌, subst, inl, inr, chars, bytes_eq, append-nil, arith, Some, None}
 use Rattle.std.specs.List.{flat_map, AllByRecursion as Each}
 use Rattle.markup_nodes.specs.declared.words.Attr.{Attr}
 use Rattle.markup_nodes.specs.declared.tree.Elem.{Elem, out-Elem}

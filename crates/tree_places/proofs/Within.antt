@@ -1,5 +1,5 @@
 -- Lists that stand within others, in their order.
-use Rattle.std.proofs.Common.{◌≡◌, ◌⊎◌, ◌<◌, ℕ, Bool, true, false, cond, List, [], ◌∷◌, ◌++◌, map, length, get_or, refl, sym, ap, ◌∙◌, subst, inl, inr, arith, zero, suc}
+use Rattle.std.proofs.Common.{◌≡◌, ◌⊎◌, Bool, true, false, cond, List, [], ◌∷◌, ◌++◌, map, refl, sym, ap, ◌∙◌, subst, inl, inr, arith, zero, suc}
 use Rattle.std.specs.Prelude.{AllPairs}
 use Rattle.std.specs.List.{flat_map, filter, All, AllByRecursion as Each}
 use Rattle.std.proofs.lemmas.List.Kept.{AllPairs-cons}
@@ -25,11 +25,11 @@ pub within_behind : {X : Type 0} (front xs ys : List X) → Within xs ys → Wit
 within_behind [] xs ys h = h
 within_behind (y ∷ front) xs ys h = within_more y xs (front ++ ys) (within_behind front xs ys h)
 
-pub within_append : {X : Type 0} (as bs cs ds : List X) → Within as bs → Within cs ds → Within (as ++ cs) (bs ++ ds)
-within_append [] bs cs ds h k = within_behind bs cs ds k
-within_append (a ∷ as) [] cs ds h k = absurd h
-within_append (a ∷ as) (b ∷ bs) cs ds (inl h) k = inl (h.0, within_append as bs cs ds h.1 k)
-within_append (a ∷ as) (b ∷ bs) cs ds (inr h) k = inr (within_append (a ∷ as) bs cs ds h k)
+pub within_append : {X : Type 0} (xs ys us vs : List X) → Within xs ys → Within us vs → Within (xs ++ us) (ys ++ vs)
+within_append [] ys us vs h k = within_behind ys us vs k
+within_append (a ∷ xs) [] us vs h k = absurd h
+within_append (a ∷ xs) (b ∷ ys) us vs (inl h) k = inl (h.0, within_append xs ys us vs h.1 k)
+within_append (a ∷ xs) (b ∷ ys) us vs (inr h) k = inr (within_append (a ∷ xs) ys us vs h k)
 
 pub within_front : {X : Type 0} (xs ys zs : List X) → Within xs ys → Within xs (ys ++ zs)
 within_front [] ys zs h = tt
@@ -37,13 +37,13 @@ within_front (x ∷ xs) [] zs h = absurd h
 within_front (x ∷ xs) (y ∷ ys) zs (inl h) = inl (h.0, within_front xs ys zs h.1)
 within_front (x ∷ xs) (y ∷ ys) zs (inr h) = inr (within_front (x ∷ xs) ys zs h)
 
-pub within_through : {X : Type 0} (as bs cs : List X) → Within as bs → Within bs cs → Within as cs
-within_through [] bs cs h k = tt
-within_through (a ∷ as) [] cs h k = absurd h
-within_through (a ∷ as) (b ∷ bs) [] h k = absurd k
-within_through (a ∷ as) (b ∷ bs) (c ∷ cs) (inl h) (inl k) = inl (h.0 ∙ k.0, within_through as bs cs h.1 k.1)
-within_through (a ∷ as) (b ∷ bs) (c ∷ cs) (inr h) (inl k) = inr (within_through (a ∷ as) bs cs h k.1)
-within_through (a ∷ as) (b ∷ bs) (c ∷ cs) h (inr k) = inr (within_through (a ∷ as) (b ∷ bs) cs h k)
+pub within_through : {X : Type 0} (xs ys zs : List X) → Within xs ys → Within ys zs → Within xs zs
+within_through [] ys zs h k = tt
+within_through (a ∷ xs) [] zs h k = absurd h
+within_through (a ∷ xs) (b ∷ ys) [] h k = absurd k
+within_through (a ∷ xs) (b ∷ ys) (c ∷ zs) (inl h) (inl k) = inl (h.0 ∙ k.0, within_through xs ys zs h.1 k.1)
+within_through (a ∷ xs) (b ∷ ys) (c ∷ zs) (inr h) (inl k) = inr (within_through (a ∷ xs) ys zs h k.1)
+within_through (a ∷ xs) (b ∷ ys) (c ∷ zs) h (inr k) = inr (within_through (a ∷ xs) (b ∷ ys) zs h k)
 
 pub within_map : {X Y : Type 0} (f : X → Y) (xs ys : List X) → Within xs ys → Within (map f xs) (map f ys)
 within_map f [] ys h = tt
@@ -53,16 +53,16 @@ within_map f (x ∷ xs) (y ∷ ys) (inr h) = inr (within_map f (x ∷ xs) ys h)
 
 pub within_filter : {X : Type 0} (test : X → Bool) (xs : List X) → Within (filter test xs) xs
 within_filter test [] = tt
-within_filter test (x ∷ xs) = by_test (test x) where
-  by_test : (b : Bool) → Within (cond b (x ∷ filter test xs) (filter test xs)) (x ∷ xs)
-  by_test true = inl (refl, within_filter test xs)
-  by_test false = within_more x (filter test xs) xs (within_filter test xs)
+within_filter test (x ∷ xs) = by_test (test x) (within_filter test xs) where
+  by_test : (b : Bool) → Within (filter test xs) xs → Within (cond b (x ∷ filter test xs) (filter test xs)) (x ∷ xs)
+  by_test true h = inl (refl, h)
+  by_test false h = within_more x (filter test xs) xs h
 
 pub within_is : {X : Type 0} (xs ys zs : List X) → xs ≡ ys → Within ys zs → Within xs zs
-within_is xs ys zs e h = subst (λ (some : List X). Within some zs) (sym e) h
+within_is {X} xs ys zs e h = subst (λ (some : List X). Within some zs) (sym e) h
 
 pub within_all : {X : Type 0} (xs ys zs : List X) → Within xs ys → ys ≡ zs → Within xs zs
-within_all xs ys zs h e = subst (λ (some : List X). Within xs some) e h
+within_all {X} xs ys zs h e = subst (λ (some : List X). Within xs some) e h
 
 -- what one list of each thing stands in, another of each does
 pub within_each : {X Y : Type 0} (f g : X → List Y) (xs : List X) → Each (λ x. Within (f x) (g x)) xs → Within (flat_map f xs) (flat_map g xs)
@@ -89,7 +89,7 @@ pairs_of R (x ∷ xs) h =
     (each_of (R x) xs (λ i d l. h zero (suc i) d (omega arith) (omega (arith, l))), pairs_of R xs (λ i j d lt l. h (suc i) (suc j) d (omega (arith, lt)) (omega (arith, l))))
 
 pub all_pairs : {X : Type 0} (R : X → X → Type 0) (xs : List X) → Pairs R xs → AllPairs R xs
-all_pairs R [] h i j d lt l = absurd (omega (arith, l))
+all_pairs R [] h = λ i j d lt l. absurd (omega (arith, l))
 all_pairs R (x ∷ xs) h = AllPairs-cons R x xs (all_of (R x) xs h.0) (all_pairs R xs h.1)
 
 pub each_within : {X : Type 0} (P : X → Type 0) (xs ys : List X) → Within xs ys → Each P ys → Each P xs
