@@ -1,5 +1,5 @@
 -- Each paragraph that is read has the place of an element of its own.
-use Rattle.std.proofs.Common.{◌≡◌, ◌≢◌, ◌<◌, ◌≤◌, ◌+◌, ◌==◌, ◌&&◌, ℕ, nat_lt, not, Bool, true, false, cond, List, [], ◌∷◌, ◌++◌, map, length, refl, sym, ap, ◌∙◌, subst, append-nil, arith, Option, Some, None}
+use Rattle.std.proofs.Common.{◌≡◌, ◌≢◌, ◌<◌, ◌==◌, ◌&&◌, ℕ, nat_lt, not, Bool, true, false, cond, List, [], ◌∷◌, ◌++◌, map, length, replicate, refl, sym, ap, ◌∙◌, subst, append-nil, arith, Option, Some, None}
 use Rattle.std.specs.Prelude.{AllPairs}
 use Rattle.std.specs.List.{flat_map, AllByRecursion as Each}
 use Rattle.std.specs.Option.{option_map_or}
@@ -8,12 +8,14 @@ use Rattle.markup_nodes.specs.Node.{Node, Element as Inner, Char as Letter}
 use Rattle.markup_nodes.specs.Nodes.{elems}
 use Rattle.doc_model.specs.declared.style.Family.TheVariants as family
 use Rattle.doc_model.specs.declared.block.Block.{Block}
-use Rattle.doc_model.specs.declared.block.Kind.TheVariants.{Plain}
-use Rattle.doc_model.specs.declared.block.SectionSource.{SectionSource}
 use Rattle.doc_model.specs.declared.field.Field.{Field}
 use Rattle.doc_model.specs.declared.field.NoteClass.TheVariants as class
 use Rattle.doc_model.specs.declared.paragraph.Mark.{Mark}
 use Rattle.doc_model.specs.declared.paragraph.Mark.TheVariants.{Point, Start, End}
+use Rattle.doc_model.specs.declared.paragraph.Par.{Par}
+use Rattle.doc_model.specs.declared.paragraph.Item.{Item}
+use Rattle.doc_model.specs.declared.paragraph.Note.{Note}
+use Rattle.doc_model.specs.declared.paragraph.What.{What}
 use Rattle.doc_model.specs.declared.paragraph.What.TheOpen.{What-F}
 use Rattle.doc_model.specs.Reading.{paragraphs, number_of}
 use Rattle.load_model.specs.declared.names.Key.TheVariants as key
@@ -25,24 +27,17 @@ use Rattle.load_model.specs.Values as value
 use Rattle.load_model.specs.Values.{Rule, stated_or, value_of}
 use Rattle.load_model.specs.Styles.{style_reference}
 use Rattle.load_model.specs.Left.{nothing, is_same_tag}
-use Rattle.load_model.specs.Met.{is_at, is_dropped}
-use Rattle.load_model.specs.Content.{Raw, Blank, Read, item_in, raw_character, spaced, items_of_raw}
-use Rattle.load_model.specs.Fields.{field_of, is_field, own_name}
-use Rattle.load_model.specs.Blocks.{
-    Known, Around, Lists, Gives, gives_of, ReadSource, ReadContent, ReadBlocks, content_of, node_content, own_text, mark_content, field_content, spaces_content, span_content, first_given, lists_of_note, or_empty, paragraphs_of, blocks_alone,
-    note_blocks, note_content, element_content, paragraph_rules, heading_rules, list_place, paragraph_block, is_directly_in, first_changed, inner_list, list_blocks, entry_blocks, kept_section, section_blocks, declaration_blocks, element_blocks,
-    joined_blocks, no_blocks, blocks_with, without_declarations, without_sources, one_element
-}
-use Rattle.load_model.specs.Loaded.{text_of, known_of, read_text, draft_of}
+use Rattle.load_model.specs.Met.{is_at}
+use Rattle.load_model.specs.Content.{Read, item_in, spaced}
+use Rattle.load_model.specs.Fields.{field_of, own_name}
+use Rattle.load_model.specs.Blocks.{Known, Around, Lists, Gives, gives_of, ReadBlocks, content_of, own_text, mark_content, field_content, span_content, first_given, lists_of_note, or_empty, paragraphs_of, blocks_alone, note_blocks, note_content, element_content, paragraph_rules, heading_rules, paragraph_block, is_directly_in, first_changed, inner_list, list_blocks, entry_blocks, kept_section, section_blocks, element_blocks, joined_blocks, no_blocks, blocks_with, without_declarations, without_sources, one_element}
+use Rattle.load_model.specs.Loaded.{text_of, known_of, draft_of}
 use Rattle.tree_places.specs.Order.{places_in, IsInOrder}
 use Rattle.tree_places.proofs.Within.{Within, within_more, within_self, within_behind, within_front, within_append, within_through, within_is, within_all, each_weaker, Pairs, pairs_of, all_pairs, pairs_within, pairs_weaker}
 use Rattle.tree_places.proofs.Trees.{every_element, places_out}
 use Rattle.text_places.proofs.Lists.{text_within}
 use Rattle.text_places.proofs.Held.{with_nodes, given, gives_out, elems_given}
-use Rattle.text_places.proofs.Numbers.{
-    Layer, layer_numbers, block_numbers, numbers_of, all_numbers, layer_block_numbers, section_block_numbers, empty_within, pars_within, changed_within, item_numbers, raw_number, raw_numbers, no_numbers, note_numbers, none_of, character_numbers,
-    numbers_read
-}
+use Rattle.text_places.proofs.Numbers.{notes_in, block_numbers, numbers_of, all_numbers, layer_block_numbers, section_block_numbers, empty_within, pars_within, changed_within, raw_number, raw_numbers, no_numbers, note_numbers, none_of, character_numbers, numbers_read}
 
 abbrev inner : List Element → List ℕ
 inner elements = flat_map places_in elements
@@ -86,22 +81,22 @@ module _ (known : Known) where
       (ap (λ (front : List ℕ). front ++ raw_numbers (content_of around (map (given known) nodes)).raws) (character_numbers around.spans c)) (content_told around nodes all)
 
   -- the first body of a note
+  abbrev numbers_in : List Gives → List ℕ
+  numbers_in bodies = numbers_of (joined_blocks (map (λ (body : Gives). blocks_alone (body.inside lists_of_note)) bodies)).blocks
+
   first_told : (elements : List Element) → Each IsTold elements → Within (numbers_of (note_blocks (map given_of elements)).blocks) (inner elements)
   first_told [] all = tt
-  first_told (one ∷ more) all = by_tag (is_same_tag (given_of one).tag tag.NoteBody) where
-    abbrev numbers_in : List Gives → List ℕ
-    numbers_in bodies = numbers_of (joined_blocks (map (λ (body : Gives). blocks_alone (body.inside lists_of_note)) bodies)).blocks
-
+  first_told (one ∷ more) all = by_tag (is_same_tag (given_of one).tag tag.NoteBody) (first_told more all.1) where
     held_in : Within (numbers_of ((given_of one).inside lists_of_note).blocks) (places_in one)
     held_in =
         within_all (numbers_of ((given_of one).inside lists_of_note).blocks) ((out-Element one).place ∷ inner (elems (out-Element one).nodes)) (places_in one)
         (within_more (out-Element one).place (numbers_of ((given_of one).inside lists_of_note).blocks) (inner (elems (out-Element one).nodes)) (all.0.3 lists_of_note)) (sym (places_out one))
 
-    by_tag : (b : Bool) → Within (numbers_in (cond b (given_of one ∷ []) (first_given tag.NoteBody (map given_of more)))) (inner (one ∷ more))
-    by_tag true =
+    by_tag : (b : Bool) → Within (numbers_in (first_given tag.NoteBody (map given_of more))) (inner more) → Within (numbers_in (cond b (given_of one ∷ []) (first_given tag.NoteBody (map given_of more)))) (inner (one ∷ more))
+    by_tag true h =
         within_is (numbers_in (given_of one ∷ [])) (numbers_of ((given_of one).inside lists_of_note).blocks) (inner (one ∷ more)) (ap numbers_of (append-nil ((given_of one).inside lists_of_note).blocks))
         (within_front (numbers_of ((given_of one).inside lists_of_note).blocks) (places_in one) (inner more) held_in)
-    by_tag false = within_behind (places_in one) (numbers_in (first_given tag.NoteBody (map given_of more))) (inner more) (first_told more all.1)
+    by_tag false h = within_behind (places_in one) (numbers_in (first_given tag.NoteBody (map given_of more))) (inner more) h
 
   -- elements that are read by what they hold
   module _ (place : ℕ) (elements : List Element) (all : Each IsTold elements) where
@@ -184,20 +179,21 @@ module _ (known : Known) where
         (within_append (place ∷ []) (place ∷ []) (raw_numbers raws) (inner (elems nodes)) (within_self (place ∷ [])) (content_told (record { spans = []; in_note = lists.in_note }) nodes all))
 
     -- an item without a number
-    none_in : (raws : List Raw) → raw_numbers raws ≡ [] → Within (raw_numbers raws) whole_of
-    none_in raws e = within_is (raw_numbers raws) [] whole_of e tt
+    leaf_in : (spans : List (List ℕ)) (what : What-F What Item Note Par) → notes_in what ≡ [] → (count : ℕ) → Within (raw_numbers (map Read (replicate count (item_in spans what)))) whole_of
+    leaf_in spans what e count =
+        within_is (raw_numbers (map Read (replicate count (item_in spans what)))) [] whole_of (none_of (item_in spans what) (no_numbers spans what e) count) tt
 
     mark_in : (around : Around) (mark : List ℕ → Mark) (attributes : List Attribute) (some : List Gives) → Within (raw_numbers (mark_content known around place mark attributes some).raws) whole_of
     mark_in around mark attributes some = by_kept (is_at known.kept.marks place) refl where
       by_kept : (b : Bool) → is_at known.kept.marks place ≡ b → Within (raw_numbers (mark_content known around place mark attributes some).raws) whole_of
-      by_kept true e = rw e (none_in _ (none_of (item_in around.spans (What-F.Mark (mark (stated_or key.TextName value.name [] attributes)))) (no_numbers around.spans (What-F.Mark (mark (stated_or key.TextName value.name [] attributes))) refl) 1))
+      by_kept true e = rw e (leaf_in around.spans (What-F.Mark (mark (stated_or key.TextName value.name [] attributes))) refl 1)
       by_kept false e = rw e tt
 
     field_in : (around : Around) (which : Tag) (attributes : List Attribute) → Within (raw_numbers (field_content known around which place attributes held).raws) whole_of
     field_in around which attributes = by_field (field_of which (is_at known.kept.references place) (spaced (own_text held)) attributes) refl where
       by_field : (field : Option Field) → field_of which (is_at known.kept.references place) (spaced (own_text held)) attributes ≡ field → Within (raw_numbers (field_content known around which place attributes held).raws) whole_of
       by_field None e = rw e tt
-      by_field (Some field) e = rw e (none_in _ (none_of (item_in around.spans (What-F.Field field)) (no_numbers around.spans (What-F.Field field) refl) 1))
+      by_field (Some field) e = rw e (leaf_in around.spans (What-F.Field field) refl 1)
 
     span_in : (around : Around) (attributes : List Attribute) → Within (raw_numbers (span_content known around attributes held).raws) whole_of
     span_in around attributes = by_value (value_of key.StyleName attributes) refl where
@@ -218,17 +214,11 @@ module _ (known : Known) where
     of_elems : (role : List Gives → List ℕ) → Within (role (map given_of (elems nodes))) whole_of → Within (role (elems held)) whole_of
     of_elems role h = within_is (role (elems held)) (role (map given_of (elems nodes))) whole_of (ap role (elems_given known nodes)) h
 
-    other_in : (which : Tag) (around : Around) (attributes : List Attribute) (b c : Bool)
-        → Within (raw_numbers (cond b (field_content known around which place attributes held) (cond c (record { raws = []; left = one_element }) (record (content_of around held) { left = (content_of around held).left }))).raws) whole_of
-    other_in which around attributes true c = field_in around which attributes
-    other_in which around attributes false true = tt
-    other_in which around attributes false false = content_in around
-
     in_content : (which : Tag) (attributes : List Attribute) (around : Around) → Within (raw_numbers (element_content known which place attributes held around).raws) whole_of
     in_content tag.Span attributes around = span_in around attributes
-    in_content tag.Spaces attributes around = none_in _ (none_of (item_in around.spans (What-F.Char 0x20)) (no_numbers around.spans (What-F.Char 0x20) refl) (stated_or key.Count (value.number 1 4294967295) 1 attributes))
-    in_content tag.Tab attributes around = none_in _ (none_of (item_in around.spans What-F.Tab) (no_numbers around.spans What-F.Tab refl) 1)
-    in_content tag.LineBreak attributes around = none_in _ (none_of (item_in around.spans What-F.Break) (no_numbers around.spans What-F.Break refl) 1)
+    in_content tag.Spaces attributes around = leaf_in around.spans (What-F.Char 0x20) refl (stated_or key.Count (value.number 1 4294967295) 1 attributes)
+    in_content tag.Tab attributes around = leaf_in around.spans What-F.Tab refl 1
+    in_content tag.LineBreak attributes around = leaf_in around.spans What-F.Break refl 1
     in_content tag.Note attributes around = of_elems (λ some. raw_numbers (note_content known around place attributes some).raws) (note_in place (elems nodes) all around attributes)
     in_content tag.Bookmark attributes around = mark_in around Point attributes (elems held)
     in_content tag.BookmarkStart attributes around = mark_in around Start attributes (elems held)

@@ -1,5 +1,5 @@
 -- The places of declarations stand within those of a text's elements.
-use Rattle.std.proofs.Common.{◌≡◌, ℕ, ◌+◌, ◌==◌, ◌&&◌, not, Bool, true, false, cond, List, [], ◌∷◌, ◌++◌, map, refl, sym, ap, ◌∙◌, append-nil, Option, Some, None, is_some}
+use Rattle.std.proofs.Common.{◌≡◌, ℕ, ◌==◌, ◌&&◌, not, Bool, true, false, cond, List, [], ◌∷◌, ◌++◌, map, refl, sym, ap, ◌∙◌, append-nil, Option, Some, None, is_some}
 use Rattle.std.specs.List.{flat_map, filter, AllByRecursion as Each}
 use Rattle.std.specs.Option.{option_map_or}
 use Rattle.std.specs.Str.{bytes_eq}
@@ -14,16 +14,35 @@ use Rattle.load_model.specs.declared.element.Attribute.{Attribute}
 use Rattle.load_model.specs.declared.element.Element.{Element, out-Element}
 use Rattle.load_model.specs.Values as value
 use Rattle.load_model.specs.Values.{stated, stated_or}
-use Rattle.load_model.specs.Left.{Left, nothing, is_same_tag, firsts}
+use Rattle.load_model.specs.Left.{nothing, is_same_tag, firsts}
 use Rattle.load_model.specs.Met.{is_at}
 use Rattle.load_model.specs.Blocks.{
-    Known, Lists, Gives, gives_of, Declared, ReadDeclarations, ReadBlocks, joined_blocks, no_blocks, blocks_with, without_declarations, without_sources, kept_section, first_changed, inner_list, list_blocks, entry_blocks, section_blocks,
-    declaration_blocks, element_blocks, one_element
+  Known,
+  Lists,
+  Gives,
+  gives_of,
+  Declared,
+  ReadDeclarations,
+  ReadBlocks,
+  joined_blocks,
+  no_blocks,
+  blocks_with,
+  without_declarations,
+  without_sources,
+  kept_section,
+  first_changed,
+  inner_list,
+  list_blocks,
+  entry_blocks,
+  section_blocks,
+  declaration_blocks,
+  element_blocks,
+  one_element,
 }
-use Rattle.load_model.specs.Loaded.{text_of, known_of, read_text, stated_declarations, kept_declarations}
+use Rattle.load_model.specs.Loaded.{text_of, known_of, read_text, kept_declarations}
 use Rattle.declared_names.specs.Merge.{IsRising}
 use Rattle.tree_places.specs.Order.{places_in, IsInOrder}
-use Rattle.tree_places.proofs.Within.{Within, within_more, within_self, within_behind, within_front, within_append, within_through, within_map, within_filter, within_is, within_all, each_weaker}
+use Rattle.tree_places.proofs.Within.{Within, within_more, within_self, within_front, within_append, within_through, within_map, within_filter, within_is, within_all, each_weaker}
 use Rattle.tree_places.proofs.Trees.{every_element, places_out}
 use Rattle.text_places.proofs.Lists.{within_firsts, within_some, rise_within, text_within, map_flat}
 use Rattle.text_places.proofs.Held.{with_nodes, given, gives_out, elems_given}

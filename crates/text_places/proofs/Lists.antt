@@ -1,7 +1,7 @@
 -- Lists within others, of parts of a tree.
 use Rattle.std.proofs.Common.{◌≡◌, ◌<◌, ◌≤◌, ℕ, not, Bool, true, false, cond, List, [], ◌∷◌, ◌++◌, map, refl, sym, ap, ◌∙◌, arith, Option, Some, None}
 use Rattle.std.specs.Prelude.{AllPairs}
-use Rattle.std.specs.List.{flat_map, filter, find, AllByRecursion as Each}
+use Rattle.std.specs.List.{flat_map, filter, find}
 use Rattle.std.specs.Option.{option_map_or, option_and_then}
 use Rattle.std.proofs.lemmas.List.{map-append}
 use Rattle.load_model.specs.declared.names.Tag.{Tag}
@@ -11,7 +11,7 @@ use Rattle.load_model.specs.Left.{children, is, first, firsts}
 use Rattle.load_model.specs.Loaded.{body_of, text_of}
 use Rattle.declared_names.specs.Merge.{IsRising}
 use Rattle.tree_places.specs.Order.{places_in}
-use Rattle.tree_places.proofs.Within.{Within, within_more, within_both, within_behind, within_front, within_append, within_through, within_filter, within_is, within_all, Pairs, pairs_of, pairs_within, pairs_weaker}
+use Rattle.tree_places.proofs.Within.{Within, within_more, within_both, within_self, within_behind, within_front, within_append, within_through, within_filter, within_is, within_all, Pairs, pairs_of, pairs_within, pairs_weaker}
 use Rattle.tree_places.proofs.Trees.{places_out}
 
 -- the first ones stand within all
@@ -24,13 +24,10 @@ within_firsts same (x ∷ xs) =
 -- what some of several things give
 pub within_some : {X Y : Type 0} (f : X → List Y) (test : X → Bool) (xs : List X) → Within (flat_map f (filter test xs)) (flat_map f xs)
 within_some f test [] = tt
-within_some f test (x ∷ xs) = by_test (test x) where
-  by_test : (b : Bool) → Within (flat_map f (cond b (x ∷ filter test xs) (filter test xs))) (f x ++ flat_map f xs)
-  by_test true = within_both_parts (f x) where
-    within_both_parts : (front : List Y) → Within (front ++ flat_map f (filter test xs)) (front ++ flat_map f xs)
-    within_both_parts [] = within_some f test xs
-    within_both_parts (y ∷ front) = within_both y (front ++ flat_map f (filter test xs)) (front ++ flat_map f xs) (within_both_parts front)
-  by_test false = within_behind (f x) (flat_map f (filter test xs)) (flat_map f xs) (within_some f test xs)
+within_some f test (x ∷ xs) = by_test (test x) (within_some f test xs) where
+  by_test : (b : Bool) → Within (flat_map f (filter test xs)) (flat_map f xs) → Within (flat_map f (cond b (x ∷ filter test xs) (filter test xs))) (f x ++ flat_map f xs)
+  by_test true h = within_append (f x) (f x) (flat_map f (filter test xs)) (flat_map f xs) (within_self (f x)) h
+  by_test false h = within_behind (f x) (flat_map f (filter test xs)) (flat_map f xs) h
 
 -- places that rise
 not_more : (x y : ℕ) → x < y → x ≤ y
@@ -50,10 +47,11 @@ rise_within places all within h =
 module _ (told : Element → List ℕ) (within : (element : Element) → Within (told element) (places_in element)) where
   found_within : (wanted : Tag) (elements : List Element) → Within (option_map_or told (first wanted elements) []) (flat_map places_in elements)
   found_within wanted [] = tt
-  found_within wanted (element ∷ elements) = by_test (is wanted element) where
-    by_test : (b : Bool) → Within (option_map_or told (cond b (Some element) (find (is wanted) elements)) []) (places_in element ++ flat_map places_in elements)
-    by_test true = within_front (told element) (places_in element) (flat_map places_in elements) (within element)
-    by_test false = within_behind (places_in element) (option_map_or told (find (is wanted) elements) []) (flat_map places_in elements) (found_within wanted elements)
+  found_within wanted (element ∷ elements) = by_test (is wanted element) (found_within wanted elements) where
+    by_test : (b : Bool) → Within (option_map_or told (find (is wanted) elements) []) (flat_map places_in elements)
+        → Within (option_map_or told (cond b (Some element) (find (is wanted) elements)) []) (places_in element ++ flat_map places_in elements)
+    by_test true h = within_front (told element) (places_in element) (flat_map places_in elements) (within element)
+    by_test false h = within_behind (places_in element) (option_map_or told (find (is wanted) elements) []) (flat_map places_in elements) h
 
   pub child_within : (wanted : Tag) (element : Element) → Within (option_map_or told (first wanted (children element)) []) (places_in element)
   child_within wanted element =

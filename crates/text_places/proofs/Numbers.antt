@@ -1,16 +1,16 @@
 -- The numbers of paragraphs, and those in the notes of items.
-use Rattle.std.proofs.Common.{◌≡◌, ℕ, ◌&&◌, not, Bool, true, false, cond, List, [], ◌∷◌, ◌++◌, map, replicate, refl, sym, ap, ap₂, ◌∙◌, append-nil, inl, Option, None, zero, suc}
-use Rattle.std.specs.List.{flat_map, filter, list_any}
+use Rattle.std.proofs.Common.{◌≡◌, ℕ, ◌&&◌, Bool, true, false, cond, List, [], ◌∷◌, ◌++◌, map, replicate, refl, sym, ap, ◌∙◌, append-nil, inl, None, zero, suc}
+use Rattle.std.specs.List.{flat_map, list_any}
 use Rattle.std.proofs.lemmas.List.{map-append}
 use Rattle.std.proofs.lemmas.Grind.{flat_map-append}
-use Rattle.doc_model.specs.declared.block.Block.{Block, out-Block, roll-Block}
+use Rattle.doc_model.specs.declared.block.Block.{Block, out-Block}
 use Rattle.doc_model.specs.declared.block.Block.TheOpen.{Block-F, Section-F}
 use Rattle.doc_model.specs.declared.block.Block.TheViews.{out-roll-Block}
-use Rattle.doc_model.specs.declared.block.Section.{Section, roll-Section}
+use Rattle.doc_model.specs.declared.block.Section.{Section}
 use Rattle.doc_model.specs.declared.paragraph.ListPos.{ListPos}
 use Rattle.doc_model.specs.declared.paragraph.Par.{Par, out-Par, roll-Par}
 use Rattle.doc_model.specs.declared.paragraph.Item.{Item}
-use Rattle.doc_model.specs.declared.paragraph.What.{What, roll-What}
+use Rattle.doc_model.specs.declared.paragraph.What.{What}
 use Rattle.doc_model.specs.declared.paragraph.What.TheOpen.{What-F, Par-F, Note-F}
 use Rattle.doc_model.specs.declared.paragraph.What.TheViews.{out-roll-Par, out-roll-Note, out-roll-What}
 use Rattle.doc_model.specs.declared.paragraph.Note.{Note, out-Note, roll-Note}
@@ -106,16 +106,16 @@ module _ (test : Block → Bool) (change : ListPos → ListPos) where
 
   pub changed_within : (blocks : List Block) → Within (numbers_of (first_changed test change blocks)) (numbers_of blocks)
   changed_within [] = tt
-  changed_within (block ∷ blocks) = by_test (test block) where
-    by_test : (b : Bool) → Within (numbers_of (cond b (in_front block ++ blocks) (block ∷ first_changed test change blocks))) (numbers_of (block ∷ blocks))
-    by_test true =
+  changed_within (block ∷ blocks) = by_test (test block) (changed_within blocks) where
+    by_test : (b : Bool) → Within (numbers_of (first_changed test change blocks)) (numbers_of blocks) → Within (numbers_of (cond b (in_front block ++ blocks) (block ∷ first_changed test change blocks))) (numbers_of (block ∷ blocks))
+    by_test true h =
         within_is (numbers_of (in_front block ++ blocks)) (numbers_of (in_front block) ++ numbers_of blocks) (numbers_of (block ∷ blocks)) (flat_map-append block_numbers (in_front block) blocks)
         (within_append (numbers_of (in_front block)) (block_numbers block) (numbers_of blocks) (numbers_of blocks) (front_within block) (within_self (numbers_of blocks)))
-    by_test false =
-        within_append (block_numbers block) (block_numbers block) (numbers_of (first_changed test change blocks)) (numbers_of blocks) (within_self (block_numbers block)) (changed_within blocks)
+    by_test false h =
+        within_append (block_numbers block) (block_numbers block) (numbers_of (first_changed test change blocks)) (numbers_of blocks) (within_self (block_numbers block)) h
 
 -- the numbers in what is read in a paragraph
-abbrev notes_in : What-F What Item Note Par → List Note
+abbrev pub notes_in : What-F What Item Note Par → List Note
 notes_in (What-F.Note note) = note ∷ []
 notes_in _ = []
 
@@ -160,13 +160,13 @@ one_more item items = ap (map number_of) (flat_map-append pars_of (note_of item)
 pub numbers_read : (before raws : List Raw) → items_numbers (items_behind before raws) ≡ raw_numbers raws
 numbers_read before [] = refl
 numbers_read before (Read item ∷ after) = one_more item (items_behind (Read item ∷ before) after) ∙ ap (λ (more : List ℕ). item_numbers item ++ more) (numbers_read (Read item ∷ before) after)
-numbers_read before (Blank spans ∷ after) = by_stays (is_nearest_solid before && list_any is_solid after) where
+numbers_read before (Blank spans ∷ after) = by_stays (is_nearest_solid before && list_any is_solid after) (numbers_read (Blank spans ∷ before) after) where
   space : Item
   space = item_in spans (What-F.Char 0x20)
 
   behind : List Item
   behind = items_behind (Blank spans ∷ before) after
 
-  by_stays : (b : Bool) → items_numbers (cond b (space ∷ behind) behind) ≡ raw_numbers after
-  by_stays true = one_more space behind ∙ ap (λ (front : List ℕ). front ++ items_numbers behind) (no_numbers spans (What-F.Char 0x20) refl) ∙ numbers_read (Blank spans ∷ before) after
-  by_stays false = numbers_read (Blank spans ∷ before) after
+  by_stays : (b : Bool) → items_numbers behind ≡ raw_numbers after → items_numbers (cond b (space ∷ behind) behind) ≡ raw_numbers after
+  by_stays true h = one_more space behind ∙ ap (λ (front : List ℕ). front ++ items_numbers behind) (no_numbers spans (What-F.Char 0x20) refl) ∙ h
+  by_stays false h = h

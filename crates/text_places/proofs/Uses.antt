@@ -1,5 +1,5 @@
 -- The places of what is met in a text stand within those of its elements.
-use Rattle.std.proofs.Common.{◌≡◌, ℕ, ◌==◌, not, Bool, true, false, cond, List, [], ◌∷◌, ◌++◌, map, refl, sym, ap, ◌∙◌, append-nil, Option, Some, None}
+use Rattle.std.proofs.Common.{◌≡◌, ℕ, ◌==◌, not, Bool, true, false, cond, List, [], ◌∷◌, ◌++◌, map, refl, sym, ap, append-nil, Option, Some, None}
 use Rattle.std.specs.List.{flat_map, filter, AllByRecursion as Each}
 use Rattle.std.specs.Option.{option_map_or}
 use Rattle.std.proofs.lemmas.Grind.{flat_map-append}
@@ -13,12 +13,44 @@ use Rattle.load_model.specs.Values as value
 use Rattle.load_model.specs.Values.{stated}
 use Rattle.load_model.specs.Left.{is_same_tag, is_one_of}
 use Rattle.load_model.specs.Met.{
-    Met, MetSection, MetMark, MetName, MarkKind, Section, Mark, Note, Reference, Sequence, Variable, Table, Whole, Start, End, Where, Gives, gives_of, in_note, each, first_given, named_at, reads_sections, section_met, note_met, mark_met,
-    sequence_met, in_blocks, in_list, in_content, is_dropped, met_in, sequences_met, variables_met, first_of_each_name
+  Met,
+  MetSection,
+  MetMark,
+  MetName,
+  MarkKind,
+  Section,
+  Mark,
+  Note,
+  Reference,
+  Sequence,
+  Variable,
+  Table,
+  Whole,
+  Start,
+  End,
+  Where,
+  Gives,
+  gives_of,
+  in_note,
+  each,
+  first_given,
+  named_at,
+  reads_sections,
+  section_met,
+  note_met,
+  mark_met,
+  sequence_met,
+  in_blocks,
+  in_list,
+  in_content,
+  is_dropped,
+  met_in,
+  sequences_met,
+  variables_met,
+  first_of_each_name,
 }
 use Rattle.load_model.specs.Loaded.{text_of, met_of, kept_declarations, used_names}
-use Rattle.met_read.specs.declared.walk.Part.TheVariants as part
-use Rattle.met_read.specs.Walk.{given_in, held}
+use Rattle.met_read.specs.Walk.{held}
 use Rattle.met_read.proofs.WalkLemmas.{blocks_out, entry_out, content_out, inside_out}
 use Rattle.declared_names.specs.Merge.{IsRising}
 use Rattle.tree_places.specs.Order.{places_in, IsInOrder}
@@ -65,12 +97,13 @@ module _ (told : Met → List ℕ) (own_section : (section : MetSection) → Wit
 
   first_told : (at : Where) (elements : List Element) → Each IsTold elements → Within (all (each (λ one. one.inside) at (first_given tag.NoteBody (map gives_of elements)))) (inner elements)
   first_told at [] known = tt
-  first_told at (one ∷ more) known = by_tag (is_same_tag (gives_of one).tag tag.NoteBody) where
-    by_tag : (b : Bool) → Within (all (each (λ (given : Gives). given.inside) at (cond b (gives_of one ∷ []) (first_given tag.NoteBody (map gives_of more))))) (inner (one ∷ more))
-    by_tag true =
+  first_told at (one ∷ more) known = by_tag (is_same_tag (gives_of one).tag tag.NoteBody) (first_told at more known.1) where
+    by_tag : (b : Bool) → Within (all (each (λ (given : Gives). given.inside) at (first_given tag.NoteBody (map gives_of more)))) (inner more)
+        → Within (all (each (λ (given : Gives). given.inside) at (cond b (gives_of one ∷ []) (first_given tag.NoteBody (map gives_of more))))) (inner (one ∷ more))
+    by_tag true h =
         within_is (all ((gives_of one).inside at ++ [])) (all ((gives_of one).inside at)) (inner (one ∷ more)) (ap all (append-nil ((gives_of one).inside at)))
         (within_front (all ((gives_of one).inside at)) (places_in one) (inner more) (known.0.3 at))
-    by_tag false = within_behind (places_in one) (all (each (λ (given : Gives). given.inside) at (first_given tag.NoteBody (map gives_of more)))) (inner more) (first_told at more known.1)
+    by_tag false h = within_behind (places_in one) (all (each (λ (given : Gives). given.inside) at (first_given tag.NoteBody (map gives_of more)))) (inner more) h
 
   -- by the tag of the element that holds them
   module _ (place : ℕ) (elements : List Element) (known : Each IsTold elements) where
