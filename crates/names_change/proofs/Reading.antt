@@ -241,14 +241,14 @@ module _ (kind : NameKind) where
       ∙ ap (λ (names : Pairs). block_places kind block ++ names) (blocks_read blocks known.1 (each_behind IsFlatPar (block_paragraphs block) (flat_map block_paragraphs blocks) flat) more)
       ∙ sym (append_assoc (block_places kind block) (flat_map (block_places kind) blocks) (read more (state false [])))
 
-  par_reads : (par : Par) → Reads-Block (par_block par)
-  par_reads par flat more =
+  par_is_read : (par : Par) → Reads-Block (par_block par)
+  par_is_read par flat more =
       let mine : Each IsFlatPar (par ∷ []) = subst (Each IsFlatPar) (par_reads par) flat in
       ap (λ (rows : List Row). read (rows ++ more) (state false [])) (par_block_rows par) ∙ par_outside [] par more mine.0
       ∙ ap (λ (names : Pairs). names ++ read more (state false [])) (sym (ap (flat_map (text_places kind)) (par_reads par) ∙ append-nil (text_places kind par)))
 
-  section_reads : (x : Section-F Block Section) → Each Reads-Block x.blocks → Reads-Block (section_block x)
-  section_reads x known flat more =
+  section_is_read : (x : Section-F Block Section) → Each Reads-Block x.blocks → Reads-Block (section_block x)
+  section_is_read x known flat more =
       ap (λ (rows : List Row). read (rows ++ more) (state false [])) (section_block_rows x)
       ∙ ap (λ (rows : List Row). read rows (state false [])) (append_assoc (rows_of x.blocks) (row.End ∷ []) more)
       ∙ blocks_read x.blocks known (subst (Each IsFlatPar) (section_reads x) flat) (row.End ∷ more)
@@ -257,7 +257,7 @@ module _ (kind : NameKind) where
   pub body_read : (body : List Block) → AreFlat (rows_of body) → read (rows_of body) (state false []) ≡ flat_map (block_places kind) body
   body_read body flat =
       ap (λ (rows : List Row). read rows (state false [])) (sym (append-nil (rows_of body)))
-      ∙ blocks_read body (of_blocks Reads-Block par_reads section_reads body) (flat_pars body flat) []
+      ∙ blocks_read body (of_blocks Reads-Block par_is_read section_is_read body) (flat_pars body flat) []
       ∙ append-nil (flat_map (block_places kind) body)
 
 -- what has items of its own, as sections haven't
