@@ -1,0 +1,4 @@
+pub mod Offences
+pub mod Outcomes
+pub mod Loads
+pub mod Parts
