@@ -85,11 +85,33 @@ fn stated_among<'a>(
 {
     let mut stated = Vec::new(alloc);
     'declarations: for part in declarations {
-        if part.sequences == sequences {
-            push_stated(&mut stated, part.declared.get())?;
-        }
+        push_kind(&mut stated, sequences, part)?;
     }
     Ok(stated)
+}
+
+// Adds the declarations of an element, if they are of this kind.
+fn push_kind<'a>(
+    stated: &mut Vec<Stated<'a>>,
+    sequences: bool,
+    part: &'a ReadDeclarations,
+) -> Result<(), AllocError>
+    ensures { OnOk result (map stated_of stated.new.items ≡ map stated_of stated.old.items ++ map told (flat_map (λ part. part.declared) (filter (is_of_kind sequences) (part.entry.now ∷ [])))) }
+{
+    if !is_of_kind(sequences, part) {
+        return Ok(());
+    }
+    push_stated(stated, part.declared.get())
+}
+
+// Whether declarations are of a kind.
+fn is_of_kind(sequences: bool, part: &ReadDeclarations) -> bool
+    ensures { result ≡ is_of_kind sequences part.now }
+{
+    if sequences {
+        return part.sequences;
+    }
+    !part.sequences
 }
 
 // Adds declarations as they are stated.

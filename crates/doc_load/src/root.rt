@@ -67,7 +67,7 @@ fn has_master_type(attributes: &[Attribute]) -> bool
 fn is_master_type(text: &str) -> bool
     ensures { result ≡ bytes_eq (codes "application/vnd.oasis.opendocument.text-master") (chars text.now) }
 {
-    MASTER == text
+    text == MASTER
 }
 
 // Whether the text says that the file is a master document.

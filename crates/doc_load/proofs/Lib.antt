@@ -1,0 +1,5 @@
+pub mod AnswerLemmas
+pub mod BodyLemmas
+pub mod FaultLemmas
+pub mod KindLemmas
+pub mod LeftLemmas
