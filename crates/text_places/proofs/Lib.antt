@@ -1,0 +1,6 @@
+mod Lists
+mod Uses
+mod Held
+mod Declared
+mod Numbers
+mod Apart
