@@ -1,6 +1,6 @@
 -- Offences one after another.
 use Rattle.std.proofs.Common.{◌≡◌, ℕ, zero, suc, ◌+◌, ◌≤◌, List, [], ◌∷◌, ◌++◌, map, length, take, drop, refl, sym, ap, ap₂, ◌∙◌, append_assoc, append-nil, arith, Option, Some, None}
-use Rattle.std.specs.Prelude.{nat_lt, option_to_list}
+use Rattle.std.specs.Prelude.{nat_lt, option_to_list, slice_get}
 use Rattle.std.specs.List.{filter}
 use Rattle.std.proofs.lemmas.List.{map-append, length-map, length-append, length-take, length-drop}
 use Rattle.std.proofs.lemmas.List.Concat.{flat_map-append}
@@ -14,9 +14,14 @@ use Rattle.doc_model.specs.declared.refusal.Limit.TheVariants as limit
 use Rattle.load_model.specs.declared.element.Element.{Element}
 use Rattle.load_model.specs.declared.offence.TreeOffence.{TreeOffence}
 use Rattle.load_model.specs.declared.offence.TreeOffenceKind.TheVariants as kind
-use Rattle.load_model.specs.Loaded.{draft_of, met_of}
+use Rattle.doc_model.specs.Alike.{in_document}
+use Rattle.doc_model.specs.declared.document.Document.{Document}
+use Rattle.draft_numbers.proofs.DraftLemmas.{numbers_alike}
+use Rattle.load_model.specs.Blocks.{with_place}
+use Rattle.load_model.specs.Loaded.{at_most_ten, draft_of, met_of}
 use Rattle.load_model.specs.Met.{tables_met}
 use Rattle.load_model.specs.Offences.{Counted, counted_paragraphs, least, limits, offences_at, places_beyond, places_of_loops, too_long}
+use Rattle.expanded_names.specs.Places.{first_place}
 use Rattle.doc_load.specs.Outcomes.{all_offences, limit_offences, root_offences}
 
 -- the offences of one limit
@@ -78,3 +83,14 @@ few_paragraphs before root e =
     let as_many = length-map (counted_paragraphs root) (λ (par : Counted). par.place) in
     let as_many' = length-map (paragraphs (draft_of root)) (λ (par : Par). record { place = number_of par; items = length (items_of par) }) in
     omega (arith, few, as_many, as_many')
+
+-- the first of some places
+pub first_is : (places : List ℕ) → first_place None places ≡ slice_get places 0
+first_is [] = refl
+first_is (place ∷ places) = refl
+
+-- a draft has as many paragraphs whether its list places have at most ten levels already or not
+pub as_many_paragraphs : (draft : Document) → length (paragraphs (in_document (with_place at_most_ten) draft)) ≡ length (paragraphs draft)
+as_many_paragraphs draft =
+    sym (length-map (paragraphs (in_document (with_place at_most_ten) draft)) number_of)
+    ∙ ap (λ (numbers : List ℕ). length numbers) (numbers_alike draft) ∙ length-map (paragraphs draft) number_of

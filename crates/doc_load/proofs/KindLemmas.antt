@@ -1,5 +1,5 @@
 -- Declarations of one kind as they are stated.
-use Rattle.std.proofs.Common.{◌≡◌, ℕ, ◌+◌, ◌<◌, Bool, true, false, not, cond, List, [], ◌∷◌, ◌++◌, map, length, take, get_or, refl, sym, ap, ap₂, ◌∙◌, append-nil}
+use Rattle.std.proofs.Common.{◌≡◌, ℕ, ◌+◌, ◌<◌, Bool, true, false, not, cond, List, [], ◌∷◌, ◌++◌, map, length, take, get_or, refl, sym, ap, ap₂, ◌∙◌, append-nil, append_assoc}
 use Rattle.std.specs.Prelude.{filter}
 use Rattle.std.specs.List.{flat_map}
 use Rattle.std.proofs.lemmas.List.{map-append, take_more}
@@ -11,7 +11,8 @@ use Rattle.load_model.specs.Loaded.{read_text, stated_declarations}
 use Rattle.read_blocks.specs.declared.read.Declared.{Declared}
 use Rattle.read_blocks.specs.declared.read.ReadDeclarations.{ReadDeclarations}
 use Rattle.read_blocks.specs.Shown as read
-use Rattle.declared_names.specs.Kept.{Shown, shown_declared}
+use Rattle.declared_names.specs.declared.stated.Stated.{Stated}
+use Rattle.declared_names.specs.Kept.{Shown, shown_declared, stated_of}
 use Rattle.doc_load.specs.Parts.{is_of_kind, told}
 
 -- the declarations of one kind
@@ -75,3 +76,11 @@ kind_alone sequences part e =
 
 pub kind_none : (sequences : Bool) (part : ReadDeclarations) → is_of_kind sequences part ≡ false → told_of sequences (part ∷ []) ≡ []
 kind_none sequences part e = ap (λ b. map told (flat_map (λ (p : ReadDeclarations). p.declared) (cond b (part ∷ []) []))) e
+
+-- one more declaration as it is stated
+pub stated_step : (declared : List Declared) (at : ℕ) (d : Declared) (base : List Shown) (old : List Stated) (one : Stated) → at < length declared
+    → map stated_of old ≡ base ++ map told (take at declared) → stated_of one ≡ told (get_or declared at d) → map stated_of (old ++ one ∷ []) ≡ base ++ map told (take (at + 1) declared)
+stated_step declared at d base old one l known is =
+    map-append stated_of old (one ∷ []) ∙ ap₂ (λ (front back : List Shown). front ++ back) known (ap (λ (shown : Shown). shown ∷ []) is)
+    ∙ append_assoc base (map told (take at declared)) (told (get_or declared at d) ∷ [])
+    ∙ ap (λ (more : List Shown). base ++ more) (sym (ap (map told) (take_more declared at d l) ∙ map-append told (take at declared) (get_or declared at d ∷ [])))

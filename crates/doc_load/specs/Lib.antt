@@ -2,3 +2,4 @@ pub mod Offences
 pub mod Outcomes
 pub mod Loads
 pub mod Parts
+pub mod Lefts

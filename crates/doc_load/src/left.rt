@@ -1,17 +1,12 @@
 //! What is left out of a file, and its report.
-ghost use Rattle.std.specs.Prelude.{◌≡◌, ◌+◌, ◌-◌, [], ◌∷◌, map, length, option_to_list};
-ghost use Rattle.std.specs.Option.{option_map, option_map_or};
-ghost use Rattle.load_model.specs.declared.names.Key.TheVariants as key;
-ghost use Rattle.load_model.specs.declared.names.Tag.TheVariants as tag;
-ghost use Rattle.load_model.specs.Blocks.{left_by};
-ghost use Rattle.load_model.specs.Left as left;
-ghost use Rattle.load_model.specs.Left.{Left, all_but, all_of, attributes_of, children};
+ghost use Rattle.std.specs.Prelude.{◌≡◌, ◌+◌, ◌-◌, length};
+ghost use Rattle.std.specs.Option.{option_map};
+ghost use Rattle.load_model.specs.Left.{all_but, children};
 ghost use Rattle.load_model.specs.Loaded as loaded;
-ghost use Rattle.load_model.specs.Loaded.{body_of, declarations_left, left_of, read_in_root, read_text, report_of, text_of};
+ghost use Rattle.load_model.specs.Loaded.{declarations_left, left_of, read_in_root, read_text, report_of, text_of};
 ghost use Rattle.load_model.specs.Styles.{style_parts};
-ghost use Rattle.load_model.specs.Values as values;
-ghost use Rattle.load_model.specs.Values.{rule};
 ghost use Rattle.element_parts.specs.Shown.{shown};
+ghost use Rattle.doc_load.specs.Lefts.{attributes_left_in, body_left_in};
 ghost use Rattle.doc_load.specs.Parts.{PartsAre, TextIs};
 
 use crate::parts::ReadParts;
@@ -39,9 +34,16 @@ pub(crate) fn text_left(root: &Element, read: LeftOut, declarations: LeftOut) ->
 
 // The attributes of the text that are left out, if there is one.
 fn text_attributes(root: &Element) -> LeftOut
-    ensures { result ≡ shown (all_of (map (λ text. left_by (rule key.Global values.truth ∷ []) (attributes_of text)) (option_to_list (text_of root.now)))) }
+    ensures { result ≡ shown (attributes_left_in (text_of root.now)) }
 {
-    match text_in(root) {
+    attributes_in(text_in(root))
+}
+
+// The attributes of a text that are left out, if there is one.
+fn attributes_in(text: Option<&Element>) -> LeftOut
+    ensures { result ≡ shown (attributes_left_in (option_map (λ text. text.now) text.entry)) }
+{
+    match text {
         Some(text) => LeftOut::nothing().both(attributes_out(TEXT_RULES, text)),
         None => LeftOut::nothing(),
     }
@@ -51,10 +53,17 @@ fn text_attributes(root: &Element) -> LeftOut
 fn body_left(root: &Element) -> LeftOut
     ensures { result ≡ shown (loaded.body_left root.now) }
 {
-    match body_in(root) {
+    left_in(body_in(root), part_count(text_in(root)))
+}
+
+// What is left out in a body of whose elements so many are read, if there is one.
+fn left_in(body: Option<&Element>, read: usize) -> LeftOut
+    ensures { result ≡ shown (body_left_in read (option_map (λ body. body.now) body.entry)) }
+{
+    match body {
         Some(body) => {
-            let own = attributes_out(&[], body);
-            LeftOut::nothing().both(own.both(children_left(part_count(text_in(root)), body)))
+            let own = attributes_out(&[], body).both(children_left(read, body));
+            LeftOut::nothing().both(own)
         }
         None => LeftOut::nothing(),
     }

@@ -5,12 +5,12 @@ mod declarations;
 mod document;
 mod faults;
 mod left;
-mod load;
+mod loading;
 mod offence;
 mod outcome;
 mod parts;
 mod root;
 mod text;
 
-pub use load::load;
+pub use loading::load;
 pub use offence::{LoadFault, Offence, OffenceKind};
