@@ -37,6 +37,13 @@ by_answer : (P : Answer → Type 0) (tree : Tree) (result : Answer) → IsUnless
 by_answer P tree result (inl e) here none = subst P (sym e) (here (first_offence tree.root) refl)
 by_answer P tree result (inr e) here none = subst P (sym e) none
 
+none_or_some : {X : Type 0} (x : X) (o : Option X) → o ≡ None → o ≡ Some x → ⊥
+none_or_some x None e f = absurd cc
+none_or_some x (Some y) e f = absurd cc
+
+same_some : {X : Type 0} (x y : X) (o : Option X) → o ≡ Some x → o ≡ Some y → x ≡ y
+same_some x y o e f = cc
+
 -- where bytes spell a tree
 module _ (bytes : List ℕ) (tree : Tree) (spelled : Spells bytes tree) (result : Answer) (answer : IsUnlessMemory (wanted tree (first_offence tree.root)) result) where
   pub tree_loaded : IfOk result (λ one. Loads bytes one.0 one.1)
@@ -61,7 +68,7 @@ module _ (bytes : List ℕ) (tree : Tree) (spelled : Spells bytes tree) (result 
 
     here : (first : Option TreeOffence) → first_offence tree.root ≡ first → IsLoadedUnlessMemory doc report (wanted tree first)
     here None e = (ap (λ (t : Tree). loaded (resolved t.root)) (sym same) ∙ sym loads.doc_is, ap (λ (t : Tree). report_of (resolved t.root)) (sym same) ∙ sym loads.report_is)
-    here (Some offence) e = absurd cc
+    here (Some offence) e = absurd (none_or_some offence (first_offence tree.root) sound e)
 
   pub tree_told : (offence : Offence) → HasOffence bytes offence → IsOffenceUnlessMemory offence result
   tree_told offence (inl markup) = absurd (tree_apart bytes tree markup.markup spelled markup.has)
@@ -73,8 +80,11 @@ module _ (bytes : List ℕ) (tree : Tree) (spelled : Spells bytes tree) (result 
     has = ap (λ (t : Tree). first_offence t.root) (sym same) ∙ is.has
 
     here : (first : Option TreeOffence) → first_offence tree.root ≡ first → IsOffenceUnlessMemory offence (wanted tree first)
-    here None e = absurd cc
-    here (Some first) e = let one : is.first ≡ first = cc in ap of_tree (sym one) ∙ sym is.is
+    here None e = absurd (none_or_some is.first (first_offence tree.root) e has)
+    here (Some first) e = ap of_tree (same_some first is.first (first_offence tree.root) e has) ∙ sym is.is
+
+no_memory : (told : MarkupOffence) → read.Offence told ≡ read.NoMemory → ⊥
+no_memory told e = absurd cc
 
 -- where they spell none
 module _ (bytes : List ℕ) where
@@ -88,5 +98,5 @@ module _ (bytes : List ℕ) where
   pub markup_told : (why : ReadFault) → ((tree : Tree) → Spells bytes tree → why ≡ read.NoMemory) → ((offence : MarkupOffence) → MarkupHas bytes offence → IsMarkupOffence offence (Err why))
       → (offence : Offence) → HasOffence bytes offence → IsOffenceUnlessMemory offence (Err (fault_of why))
   markup_told (read.Offence told) none one offence (inl is) = ap of_markup (one is.markup is.has) ∙ sym is.is
-  markup_told (read.Offence told) none one offence (inr is) = let never : read.Offence told ≡ read.NoMemory = none is.tree is.spelled in absurd cc
+  markup_told (read.Offence told) none one offence (inr is) = absurd (no_memory told (none is.tree is.spelled))
   markup_told read.NoMemory none one offence is = tt

@@ -1,5 +1,5 @@
 -- Offences one after another.
-use Rattle.std.proofs.Common.{◌≡◌, ℕ, zero, suc, ◌+◌, ◌≤◌, List, [], ◌∷◌, ◌++◌, map, length, take, drop, refl, sym, ap, ap₂, ◌∙◌, append_assoc, append-nil, arith, Option, Some, None}
+use Rattle.std.proofs.Common.{◌≡◌, Bool, ℕ, zero, suc, ◌+◌, ◌≤◌, List, [], ◌∷◌, ◌++◌, map, length, take, drop, refl, sym, ap, ap₂, ◌∙◌, append_assoc, append-nil, arith, Option, Some, None}
 use Rattle.std.specs.Prelude.{nat_lt, option_to_list, slice_get}
 use Rattle.std.specs.List.{filter}
 use Rattle.std.proofs.lemmas.List.{map-append, length-map, length-append, length-take, length-drop}
@@ -69,6 +69,12 @@ nothing_beyond zero (place ∷ places) e = absurd cc
 nothing_beyond (suc count) [] e = omega arith
 nothing_beyond (suc count) (place ∷ places) e = let few = nothing_beyond count places e in omega arith
 
+abbrev counted_by : Par → Counted
+counted_by par = record { place = number_of par; items = length (items_of par) }
+
+abbrev offence_at : Limit → ℕ → TreeOffence
+offence_at limit place = record { kind = kind.Limit limit; place = place }
+
 abbrev before_limits : List TreeOffence → Element → List TreeOffence
 before_limits before root = root_offences before root ++ offences_at kind.StyleLoop (places_of_loops root)
 
@@ -78,10 +84,10 @@ few_paragraphs before root e =
     let all = nil_parts (before_limits before root ++ limit_offences limits root) (offences_at kind.Table (tables_met (met_of root))) (no_offence (all_offences before root) e) in
     let of_limits = nil_parts (before_limits before root) (limit_offences limits root) all.0 in
     let first = nil_parts (of_limit root limit.Paragraphs) (limit_offences (drop 1 limits) root) of_limits.1 in
-    let none = map_nil (λ (place : ℕ). record { kind = kind.Limit limit.Paragraphs; place = place }) (places_beyond limit.Paragraphs root) first.0 in
+    let none = map_nil (offence_at limit.Paragraphs) (places_beyond limit.Paragraphs root) first.0 in
     let few = nothing_beyond 65536 (map (λ (par : Counted). par.place) (counted_paragraphs root)) none in
     let as_many = length-map (counted_paragraphs root) (λ (par : Counted). par.place) in
-    let as_many' = length-map (paragraphs (draft_of root)) (λ (par : Par). record { place = number_of par; items = length (items_of par) }) in
+    let as_many' = length-map (paragraphs (draft_of root)) counted_by in
     omega (arith, few, as_many, as_many')
 
 -- the first of some places

@@ -3,6 +3,5 @@ pub mod BodyLemmas
 pub mod FaultLemmas
 pub mod KindLemmas
 pub mod LeftLemmas
-pub mod OrderLemmas
 pub mod NameLemmas
 pub mod TextLemmas

@@ -70,8 +70,9 @@ fn of_kind<'a>(
     ensures { IfOk result (λ kind. (root : Element) → declarations.now ≡ map shown_declarations (read_text root).declarations → map met.met_of things.now ≡ map outlined (met_of root) → KindIs sequences root kind) }
 {
     let stated = stated_among(alloc, sequences, declarations)?;
-    let names = declared_names(alloc, sequences, stated.as_slice(), things)?;
-    let left = declared_left(stated.len(), names.kept.as_slice());
+    let all = stated.as_slice();
+    let names = declared_names(alloc, sequences, all, things)?;
+    let left = declared_left(all.len(), names.kept.as_slice());
     Ok(OfKind { names, left })
 }
 

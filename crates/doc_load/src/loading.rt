@@ -1,14 +1,15 @@
 //! The call of loading.
-ghost use Rattle.std.specs.Prelude.{◌≡◌, ◌≤◌, ◌^◌, ◌⊎◌, ℕ, List, length, Err, None, AllPairs, IfOk, IfErr};
+ghost use Rattle.std.specs.Prelude.{◌≡◌, ◌≤◌, ◌^◌, ◌⊎◌, ℕ, List, [], length, Err, None, AllPairs, IfOk, IfErr};
 ghost use Rattle.doc_model.specs.declared.document.Document.{Document};
 ghost use Rattle.doc_model.specs.declared.report.Report.{Report};
-ghost use Rattle.load_model.specs.Names.{resolved};
+ghost use Rattle.load_model.specs.Names.{places_of_bad_names, resolved};
+ghost use Rattle.markup_nodes.specs.declared.tree.Tree.{Tree};
 ghost use Rattle.load_model.specs.declared.offence.TreeOffenceKind.TheVariants as kind;
 ghost use Rattle.load_model.specs.Offences as model;
 ghost use Rattle.load_model.specs.Offences.{least, offences_at};
 ghost use Rattle.expanded_names.specs.Places.{first_place};
 ghost use Rattle.doc_load.specs.Loads.{HasOffence, IsFaultIn, IsLoadedUnlessMemory, IsOffenceUnlessMemory, Loads};
-ghost use Rattle.doc_load.specs.Outcomes.{IsSpelled, outcome_of};
+ghost use Rattle.doc_load.specs.Outcomes.{IsOrdered, IsSpelled, outcome_of};
 ghost use Rattle.doc_load.specs.Parts.{answer_of};
 ghost use Rattle.doc_load.specs.declared.offence.LoadFault.TheVariants.{NoMemory};
 ghost use Rattle.doc_load.specs.declared.offence.Offence.{Offence};
@@ -20,7 +21,10 @@ use expanded_names::{Resolved, resolve};
 use first_faults::FirstFault;
 use load_model::TreeOffenceKind;
 use markup_tree::{Tree, read_tree};
+use nested_sections::sections_are_nested;
 use std::alloc::{AllocError, Global};
+use text_places::{declarations_rise, paragraphs_are_apart};
+use tree_places::{bad_names_rise, resolved_trees_are_in_order, spelled_trees_are_in_order};
 
 /// Loads a file of at most 2^28 bytes: the document, and what is left out of it, or the first offence.
 pub fn load(alloc: Global, bytes: &[u8]) -> Result<(Document, Report), LoadFault>
@@ -66,8 +70,22 @@ fn tree_outcome(alloc: Global, tree: Tree) -> Result<Outcome, AllocError>
     requires { IsSpelled tree }
     ensures { IfOk result (λ outcome. outcome ≡ outcome_of (resolved tree.root) (model.first_offence tree.root)) }
 {
+    places_are_ordered();
     let Resolved { root, bad_names } = resolve(alloc, tree.root)?;
     root_outcome(alloc, first_names(bad_names), &root)
+}
+
+// What holds of places in a tree that bytes spell. It does nothing.
+fn places_are_ordered()
+    ensures names { (tree : Tree) → IsSpelled tree → AllPairs (λ place other. place ≤ other) (places_of_bad_names tree.root []) }
+    ensures ordered { (tree : Tree) → IsSpelled tree → IsOrdered (resolved tree.root) }
+{
+    spelled_trees_are_in_order();
+    resolved_trees_are_in_order();
+    bad_names_rise();
+    declarations_rise();
+    paragraphs_are_apart();
+    sections_are_nested();
 }
 
 // The first of the offences of bad names.

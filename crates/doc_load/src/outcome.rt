@@ -52,7 +52,8 @@ fn outcome_of_parts(
     ensures { IfOk result (λ outcome. (before : List TreeOffence) → first ≡ least before → outcome ≡ outcome_of root.now (least (all_offences before root.now))) }
 {
     let report = report(root, &parts, &text);
-    match first_offence(alloc, first, root, &parts, &text)? {
+    let told = first_offence(alloc, first, root, &parts, &text)?;
+    match told {
         Some(offence) => Ok(Outcome::Refused(offence)),
         None => {
             let doc = number(alloc, draft(root, parts, text))?;

@@ -48,7 +48,7 @@ pub(crate) fn read_parts(
     let masters = read_masters(alloc, root, sheet)?;
     let loops = loop_places(alloc, sheet, values.styles.get())?;
     Ok(ReadParts {
-        count: sheet.parts.len(),
+        count: sheet.parts.as_slice().len(),
         values,
         masters,
         loops,

@@ -12,10 +12,10 @@ pub returns : goal.returns
 returns c = λ root parts things.
     let sequences = c.args.sequences in
     let told = c.in_ok-stated.ensures ∙ ap (told_of sequences) parts ∙ told_kind sequences (read_text root).declarations ∙ ap (map shown_declared) (sym (stated_is sequences root)) in
-    let are = ap (map stated_of) c.as_slice.ensures.value ∙ told in
+    let are = ap (map stated_of) c.as_slice-all.ensures.value ∙ told in
     let names = c.in_ok-names.ensures (stated_declarations sequences root) (met_of root) are things in
-    let kept = ap (map stated_of) c.as_slice-2.ensures.value ∙ names.kept_are in
-    let as_many = c.len.ensures ∙ sym (length-map _ stated_of) ∙ ap (λ (all : List Shown). length all) told ∙ length-map (stated_declarations sequences root) shown_declared in
+    let kept = ap (map stated_of) c.as_slice.ensures.value ∙ names.kept_are in
+    let as_many = c.len.ensures ∙ sym (length-map c.as_slice-all.result.now stated_of) ∙ ap (λ (all : List Shown). length all) are ∙ length-map (stated_declarations sequences root) shown_declared in
     record {
       names_are = names;
       left_is = c.declared_left.ensures (kept_declarations sequences root) kept

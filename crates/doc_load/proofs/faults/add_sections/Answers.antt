@@ -8,5 +8,5 @@ use Rattle.doc_load.proofs.faults.add_sections.Goals as goal
 pub returns : goal.returns
 returns c = λ before root met known.
     let one = c.add_limit.ensures before root met.section_is known in
-    let two = c.add_limit_at.ensures (before ++ limit_offences (limit.Sections ∷ []) root) root met.deep_are one in
+    let two = c.add_limit_at.ensures (before ++ limit_offences (limit.Sections ∷ []) root) root (c.as_slice.ensures.value ∙ met.deep_are) one in
     two ∙ ap least (limits_more before root (limit.Sections ∷ []) (limit.SectionDepth ∷ []))

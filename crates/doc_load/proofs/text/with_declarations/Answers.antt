@@ -17,5 +17,5 @@ returns c = λ ordered things faults read.
           ∙ ap (or_empty place) read.blocks_are ∙ kept_or_empty place (read_text root).blocks;
       declarations_are = all;
       faults_are = faults;
-      left_is = c.text_left.ensures read.left_is all.left_is;
+      left_is = c.text_left-left.ensures read.left_is all.left_is;
     }
