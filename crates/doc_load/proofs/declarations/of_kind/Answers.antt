@@ -15,7 +15,7 @@ returns c = λ root parts things.
     let are = ap (map stated_of) c.as_slice-all.ensures.value ∙ told in
     let names = c.in_ok-names.ensures (stated_declarations sequences root) (met_of root) are things in
     let kept = ap (map stated_of) c.as_slice.ensures.value ∙ names.kept_are in
-    let as_many = c.len.ensures ∙ sym (length-map c.as_slice-all.result.now stated_of) ∙ ap (λ (all : List Shown). length all) are ∙ length-map (stated_declarations sequences root) shown_declared in
+    let as_many = sym (length-map c.as_slice-all.result.now stated_of) ∙ ap (λ (all : List Shown). length all) are ∙ length-map (stated_declarations sequences root) shown_declared in
     record {
       names_are = names;
       left_is = c.declared_left.ensures (kept_declarations sequences root) kept

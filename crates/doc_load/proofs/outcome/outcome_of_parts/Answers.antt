@@ -20,7 +20,7 @@ number-requires c =
 pub returns-in_ok-doc-in-None : goal.returns-in_ok-doc-in-None
 returns-in_ok-doc-in-None c = λ before known.
     let root = c.args.root.now in
-    ap₂ (λ (doc : Document) (report : Report). outcome.Loaded doc report) (c.in_ok-doc.ensures root (c.draft.ensures c.requires.parts c.requires.text) c.requires.ordered) (c.report-report.ensures c.requires.parts c.requires.text)
+    ap₂ (λ (doc : Document) (report : Report). outcome.Loaded doc report) (c.in_ok-doc-in-None.ensures root (c.draft.ensures c.requires.parts c.requires.text) c.requires.ordered) (c.report-report.ensures c.requires.parts c.requires.text)
     ∙ ap (outcome_of root) (sym c.in-None.is ∙ c.in_ok-told.ensures before known)
 
 pub returns-in-Some : goal.returns-in-Some

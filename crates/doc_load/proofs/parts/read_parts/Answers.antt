@@ -9,7 +9,7 @@ returns c = λ sheet.
     let root = c.args.root.now in
     let values = c.in_ok-values.ensures root sheet in
     record {
-      count_is = c.len.ensures ∙ ap (λ (parts : List (Bor Element)). length parts) c.as_slice.ensures.value
+      count_is = ap (λ (parts : List (Bor Element)). length parts) c.as_slice.ensures.value
           ∙ sym (length-map c.args.sheet.now.parts.items (λ (part : Bor Element). part.now)) ∙ ap (λ (parts : List Element). length parts) sheet.parts_are;
       values_are = values;
       masters_are = c.in_ok-masters.ensures sheet;
