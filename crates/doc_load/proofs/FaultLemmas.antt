@@ -20,9 +20,10 @@ use Rattle.draft_numbers.proofs.DraftLemmas.{numbers_alike}
 use Rattle.load_model.specs.Blocks.{with_place}
 use Rattle.load_model.specs.Loaded.{at_most_ten, draft_of, met_of}
 use Rattle.load_model.specs.Met.{tables_met}
-use Rattle.load_model.specs.Offences.{Counted, counted_paragraphs, least, limits, offences_at, places_beyond, places_of_loops, too_long}
+use Rattle.load_model.specs.Offences.{Counted, counted_paragraphs, first_offence, least, limits, offences_at, places_beyond, places_of_loops, too_long}
+use Rattle.markup_nodes.specs.declared.tree.Elem.{Elem}
 use Rattle.expanded_names.specs.Places.{first_place}
-use Rattle.doc_load.specs.Outcomes.{all_offences, limit_offences, root_offences}
+use Rattle.doc_load.specs.Outcomes.{all_offences, first_in, limit_offences, root_offences}
 
 -- the offences of one limit
 abbrev pub of_limit : Element → Limit → List TreeOffence
@@ -100,3 +101,7 @@ pub as_many_paragraphs : (draft : Document) → length (paragraphs (in_document 
 as_many_paragraphs draft =
     sym (length-map (paragraphs (in_document (with_place at_most_ten) draft)) number_of)
     ∙ ap (λ (numbers : List ℕ). length numbers) (numbers_alike draft) ∙ length-map (paragraphs draft) number_of
+
+-- the first offence of a tree is the first one that is found
+pub first_is_least : (tree : Elem) → first_in tree ≡ first_offence tree
+first_is_least tree = refl

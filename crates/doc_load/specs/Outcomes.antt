@@ -12,6 +12,8 @@ use Rattle.load_model.specs.declared.offence.TreeOffenceKind.TheVariants as kind
 use Rattle.load_model.specs.Left.{is, attributes_of}
 use Rattle.load_model.specs.Loaded.{draft_of, kept_declarations, loaded, met_of, report_of, used_names}
 use Rattle.load_model.specs.Met.{tables_met}
+use Rattle.load_model.specs.Names.{places_of_bad_names, resolved}
+use Rattle.markup_nodes.specs.declared.tree.Elem.{Elem}
 use Rattle.load_model.specs.Offences.{is_mimetype, least, limits, offences_at, place_if, place_of, places_beyond, places_of_loops, places_without_text}
 use Rattle.load_model.specs.Values.{value_of}
 use Rattle.markup_nodes.specs.declared.tree.Tree.{Tree}
@@ -44,6 +46,10 @@ all_offences before root =
     ++ offences_at kind.StyleLoop (places_of_loops root)
     ++ limit_offences limits root
     ++ offences_at kind.Table (tables_met (met_of root))
+
+-- the first offence of a tree: bad names come before those of its root
+abbrev pub first_in : Elem → Option TreeOffence
+first_in tree = least (all_offences (offences_at kind.Names (places_of_bad_names tree [])) (resolved tree))
 
 -- what a root is loaded as where this is its first offence
 abbrev pub outcome_of : Element → Option TreeOffence → Outcome

@@ -9,7 +9,7 @@ ghost use Rattle.load_model.specs.Offences as model;
 ghost use Rattle.load_model.specs.Offences.{least, offences_at};
 ghost use Rattle.expanded_names.specs.Places.{first_place};
 ghost use Rattle.doc_load.specs.Loads.{HasOffence, IsFaultIn, IsLoadedUnlessMemory, IsOffenceUnlessMemory, Loads};
-ghost use Rattle.doc_load.specs.Outcomes.{IsOrdered, IsSpelled, outcome_of};
+ghost use Rattle.doc_load.specs.Outcomes.{IsOrdered, IsSpelled, first_in, outcome_of};
 ghost use Rattle.doc_load.specs.Parts.{answer_of};
 ghost use Rattle.doc_load.specs.declared.offence.LoadFault.TheVariants.{NoMemory};
 ghost use Rattle.doc_load.specs.declared.offence.Offence.{Offence};
@@ -68,7 +68,7 @@ fn answer(outcome: Outcome) -> Result<(Document, Report), LoadFault>
 // What a tree comes to.
 fn tree_outcome(alloc: Global, tree: Tree) -> Result<Outcome, AllocError>
     requires { IsSpelled tree }
-    ensures { IfOk result (λ outcome. outcome ≡ outcome_of (resolved tree.root) (model.first_offence tree.root)) }
+    ensures { IfOk result (λ outcome. outcome ≡ outcome_of (resolved tree.root) (first_in tree.root)) }
 {
     places_are_ordered();
     let Resolved { root, bad_names } = resolve(alloc, tree.root)?;

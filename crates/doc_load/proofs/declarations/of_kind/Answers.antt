@@ -18,6 +18,6 @@ returns c = λ root parts things.
     let as_many = sym (length-map c.as_slice-all.result.now stated_of) ∙ ap (λ (all : List Shown). length all) are ∙ length-map (stated_declarations sequences root) shown_declared in
     record {
       names_are = names;
-      left_is = c.declared_left.ensures (kept_declarations sequences root) kept
+      left_is = c.declared_left-left.ensures (kept_declarations sequences root) kept
           ∙ ap (λ n. shown (both (all_of (map (λ (declared : blocks.Declared). declared.left) (kept_declarations sequences root))) (only_elements (n - length (kept_declarations sequences root))))) as_many;
     }
