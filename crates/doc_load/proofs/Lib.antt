@@ -5,3 +5,4 @@ pub mod KindLemmas
 pub mod LeftLemmas
 pub mod NameLemmas
 pub mod TextLemmas
+pub mod ChosenLemmas
