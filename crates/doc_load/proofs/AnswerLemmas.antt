@@ -1,5 +1,5 @@
 -- What an answer says of the bytes of a file.
-use Rattle.std.proofs.Common.{◌≡◌, ℕ, ◌⊎◌, inl, inr, List, refl, sym, ap, ◌∙◌, subst, Option, Some, None, Result, Ok, Err}
+use Rattle.std.proofs.Common.{◌≡◌, ℕ, ◌⊎◌, inl, inr, List, refl, sym, ap, ◌∙◌, subst, Option, Some, None, Result, Err}
 use Rattle.std.specs.Result.{IfOk, IfErr}
 use Rattle.doc_model.specs.declared.document.Document.{Document}
 use Rattle.doc_model.specs.declared.report.Report.{Report}
@@ -11,9 +11,9 @@ use Rattle.markup_nodes.specs.declared.tree.Tree.{Tree}
 use Rattle.markup_tree.specs.declared.reader.Offence.{Offence as MarkupOffence}
 use Rattle.markup_tree.specs.declared.reader.ReadFault.{ReadFault}
 use Rattle.markup_tree.specs.declared.reader.ReadFault.TheVariants as read
-use Rattle.markup_tree.specs.Documents.{Spells, HasOffence as MarkupHas, IsFaultIn as IsMarkupFault, IsTreeUnlessMemory, IsOffenceUnlessMemory as IsMarkupOffence}
+use Rattle.markup_tree.specs.Documents.{Spells, HasOffence as MarkupHas, IsFaultIn as IsMarkupFault, IsOffenceUnlessMemory as IsMarkupOffence}
 use Rattle.markup_tree.proofs.TreeLemmas.{one_tree, tree_apart}
-use Rattle.doc_load.specs.Loads.{HasOffence, IsFaultIn, IsLoadedUnlessMemory, IsOffenceUnlessMemory, IsOfMarkup, IsOfTree, Loads}
+use Rattle.doc_load.specs.Loads.{HasOffence, IsFaultIn, IsLoadedUnlessMemory, IsOffenceUnlessMemory, Loads}
 use Rattle.doc_load.specs.Offences.{fault_of, of_markup, of_tree}
 use Rattle.doc_load.specs.Outcomes.{outcome_of}
 use Rattle.doc_load.specs.Parts.{answer_of}

@@ -1,5 +1,5 @@
 -- What is left out in the body and the text of a root.
-use Rattle.std.specs.Prelude.{ℕ, List, [], ◌∷◌, map, Option, option_to_list}
+use Rattle.std.specs.Prelude.{ℕ, [], ◌∷◌, map, Option, option_to_list}
 use Rattle.load_model.specs.declared.names.Key.TheVariants as key
 use Rattle.load_model.specs.declared.element.Element.{Element}
 use Rattle.load_model.specs.Blocks.{left_by}

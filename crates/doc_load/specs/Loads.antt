@@ -1,5 +1,5 @@
 -- What the bytes of a file are loaded as, and their first offence.
-use Rattle.std.specs.Prelude.{◌≡◌, ℕ, ◌⊎◌, List, Option, Some, None, Result, Ok, Err}
+use Rattle.std.specs.Prelude.{◌≡◌, ℕ, ◌⊎◌, List, Some, None, Result, Ok, Err}
 use Rattle.doc_model.specs.declared.document.Document.{Document}
 use Rattle.doc_model.specs.declared.report.Report.{Report}
 use Rattle.load_model.specs.declared.offence.TreeOffence.{TreeOffence}

@@ -1,5 +1,5 @@
 -- What a tree comes to, with its offences part by part.
-use Rattle.std.specs.Prelude.{◌≡◌, ◌≢◌, ℕ, ◌++◌, not, Bool, true, false, List, [], ◌∷◌, map, Option, Some, None, AllPairs}
+use Rattle.std.specs.Prelude.{◌≢◌, ℕ, ◌++◌, not, Bool, false, List, [], map, Option, Some, None, AllPairs}
 use Rattle.std.specs.List.{flat_map}
 use Rattle.std.specs.Option.{option_map_or}
 use Rattle.doc_model.specs.declared.refusal.Limit.{Limit}

@@ -1,5 +1,5 @@
 -- What is read of a file, part by part.
-use Rattle.std.specs.Prelude.{◌≡◌, ◌-◌, Bool, true, false, not, List, map, length, option_to_list, Option, Some, None, Result, Ok, Err}
+use Rattle.std.specs.Prelude.{◌≡◌, ◌-◌, Bool, true, false, not, map, length, option_to_list, Result, Ok, Err}
 use Rattle.doc_model.specs.declared.document.Document.{Document}
 use Rattle.doc_model.specs.declared.report.Report.{Report}
 use Rattle.doc_model.specs.declared.refusal.Limit.TheVariants as limit
@@ -84,4 +84,3 @@ pub record TextIs (text : ReadText) (root : Element) : Type 0 where
   pub declarations_are : DeclarationsAre text.declarations root
   pub faults_are : AreMet text.faults root
   pub left_is : text.left ≡ shown (text_left root)
-

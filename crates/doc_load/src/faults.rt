@@ -14,9 +14,7 @@ use crate::text::{MetFaults, ReadText};
 use doc_model::Limit;
 use first_faults::FirstFault;
 use load_model::{Element, TreeOffence, TreeOffenceKind};
-use paragraph_faults::{
-    Counted, counted_paragraphs, first_too_many, paragraph_beyond, too_long,
-};
+use paragraph_faults::{Counted, counted_paragraphs, first_too_many, paragraph_beyond, too_long};
 use std::alloc::{AllocError, Global};
 use tree_faults::{misplaced_texts, wrong_mimetype, wrong_root};
 

@@ -65,14 +65,7 @@ pub(crate) fn read_root_text(
     let things = met.as_slice();
     let kept = kept_of(alloc, things)?;
     let faults = met_faults(alloc, &kept, things)?;
-    let read = blocks_in_root(
-        alloc,
-        Known {
-            names,
-            kept: &kept,
-        },
-        root,
-    )?;
+    let read = blocks_in_root(alloc, Known { names, kept: &kept }, root)?;
     with_declarations(alloc, root, things, faults, read)
 }
 
@@ -87,11 +80,7 @@ fn met_in_root(alloc: Global, root: &Element) -> Result<Vec<Met<'_>>, AllocError
 }
 
 // What is read where the blocks of the text of a root are.
-fn blocks_in_root(
-    alloc: Global,
-    known: Known<'_>,
-    root: &Element,
-) -> Result<ReadBlocks, AllocError>
+fn blocks_in_root(alloc: Global, known: Known<'_>, root: &Element) -> Result<ReadBlocks, AllocError>
     ensures { IfOk result (λ read. IsKnown known.entry (known_of root.now) → AreBlocks false read (read_text root.now)) }
 {
     match text_in(root) {

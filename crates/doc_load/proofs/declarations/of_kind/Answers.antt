@@ -1,4 +1,4 @@
-use Rattle.std.proofs.Common.{◌≡◌, ◌-◌, List, ℕ, length, map, ◌∙◌, ap, sym}
+use Rattle.std.proofs.Common.{◌-◌, List, length, map, ◌∙◌, ap, sym}
 use Rattle.std.proofs.lemmas.List.{length-map}
 use Rattle.load_model.specs.Blocks as blocks
 use Rattle.load_model.specs.Left.{all_of, both, only_elements}

@@ -1,7 +1,7 @@
-use Rattle.std.proofs.Common.{◌≡◌, ◌∙◌, ◌++◌, true, arith, List, append-nil, ap, map, sym}
+use Rattle.std.proofs.Common.{◌≡◌, ◌∙◌, ◌++◌, true, arith, List, ap, map, sym}
 use Rattle.std.proofs.lemmas.Result.{on_ok_weaker}
 use Rattle.declared_names.specs.Kept.{Shown, stated_of}
-use Rattle.doc_load.proofs.KindLemmas.{kind_alone, kind_none}
+use Rattle.doc_load.proofs.KindLemmas.{kind_alone}
 use Rattle.doc_load.specs.Parts.{is_of_kind, told}
 use Rattle.doc_load.proofs.declarations.push_kind.Goals as goal
 

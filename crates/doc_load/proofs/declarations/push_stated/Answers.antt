@@ -1,6 +1,5 @@
 use Rattle.std.proofs.Common.{List, ℕ, ◌∙◌, ap, map}
-use Rattle.declared_names.specs.declared.stated.Stated.{Stated}
-use Rattle.declared_names.specs.Kept.{Shown, stated_of}
+use Rattle.declared_names.specs.Kept.{stated_of}
 use Rattle.doc_load.specs.Parts.{told}
 use Rattle.doc_load.proofs.KindLemmas.{stated_step}
 use Rattle.doc_load.proofs.declarations.push_stated.Goals as goal

@@ -1,9 +1,8 @@
-use Rattle.std.proofs.Common.{◌≡◌, List, ℕ, map, false, true, ◌++◌, ◌∙◌, ap, ap₂, sym, subst}
+use Rattle.std.proofs.Common.{List, ℕ, map, false, true, ◌++◌, ◌∙◌, ap, ap₂, sym, subst}
 use Rattle.load_model.specs.Blocks as blocks
-use Rattle.load_model.specs.Left.{Left, all_of, both, nothing}
-use Rattle.load_model.specs.Loaded.{kept_declarations, read_text, used_names}
+use Rattle.load_model.specs.Left.{all_of, both, nothing}
+use Rattle.load_model.specs.Loaded.{read_text}
 use Rattle.doc_model.specs.declared.refusal.Limit.TheVariants as limit
-use Rattle.load_model.specs.Met.{MetName}
 use Rattle.load_model.specs.Offences.{beyond, merged}
 use Rattle.declared_names.specs.Merge.{IsRising}
 use Rattle.read_blocks.specs.declared.read.ReadDeclarations.{ReadDeclarations}

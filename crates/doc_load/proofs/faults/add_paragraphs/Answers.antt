@@ -9,8 +9,8 @@ pub returns : goal.returns
 returns c = λ before root counted heads known.
     let paragraphs = c.paragraph_beyond.ensures ∙ ap (λ (pars : List Counted). beyond limit.Paragraphs (map (λ (par : Counted). par.place) pars)) counted in
     let long = c.as_slice.ensures.value ∙ c.in_ok-extend_from_slice.ensures.items
-        ∙ ap₂ (λ (some more : List ℕ). some ++ more) (c.in_ok-long.ensures ∙ ap too_long counted) heads
-        ∙ sym (too_long_more (counted_paragraphs root) (counted_heads root)) in
+    ∙ ap₂ (λ (some more : List ℕ). some ++ more) (c.in_ok-long.ensures ∙ ap too_long counted) heads
+    ∙ sym (too_long_more (counted_paragraphs root) (counted_heads root)) in
     let items = c.first_too_many.ensures ∙ ap (first_too_many 0) counted in
     let one = c.add_limit.ensures before root paragraphs known in
     let two = c.add_limit_at.ensures (before ++ limit_offences (limit.Paragraphs ∷ []) root) root long one ∙ ap least (limits_more before root (limit.Paragraphs ∷ []) (limit.ItemsOfParagraph ∷ [])) in

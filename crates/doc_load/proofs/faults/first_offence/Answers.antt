@@ -11,7 +11,7 @@ returns c = λ before known.
     let parts = c.requires.parts in
     let here = c.in_ok-add_root.ensures before known in
     let loops = c.add_all.ensures (root_offences before root) here
-        ∙ ap (λ (places : List ℕ). least (root_offences before root ++ offences_at kind.StyleLoop places)) (c.as_slice.ensures.value ∙ parts.loops_are) in
+    ∙ ap (λ (places : List ℕ). least (root_offences before root ++ offences_at kind.StyleLoop places)) (c.as_slice.ensures.value ∙ parts.loops_are) in
     let beyond = c.in_ok-add_limits.ensures (root_offences before root ++ offences_at kind.StyleLoop (places_of_loops root)) loops in
     c.get.ensures
     ∙ c.add_all-2.ensures (root_offences before root ++ offences_at kind.StyleLoop (places_of_loops root) ++ limit_offences limits root) beyond

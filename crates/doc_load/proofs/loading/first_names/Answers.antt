@@ -1,4 +1,4 @@
-use Rattle.std.proofs.Common.{[], refl, ◌∙◌}
+use Rattle.std.proofs.Common.{[], ◌∙◌}
 use Rattle.doc_load.proofs.FaultLemmas.{first_is}
 use Rattle.doc_load.proofs.loading.first_names.Goals as goal
 

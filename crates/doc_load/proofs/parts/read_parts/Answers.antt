@@ -1,4 +1,4 @@
-use Rattle.std.proofs.Common.{List, ◌∙◌, ap, length, map, sym}
+use Rattle.std.proofs.Common.{List, ◌∙◌, ap, length, sym}
 use Rattle.std.specs.Borrow.{Bor}
 use Rattle.std.proofs.lemmas.List.{length-map}
 use Rattle.load_model.specs.declared.element.Element.{Element}

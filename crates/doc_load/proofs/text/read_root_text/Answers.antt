@@ -1,7 +1,6 @@
-use Rattle.std.proofs.Common.{List, ap, map, ◌∙◌}
+use Rattle.std.proofs.Common.{ap, map, ◌∙◌}
 use Rattle.std.proofs.lemmas.Result.{IfOk-weaker}
 use Rattle.load_model.specs.Loaded.{met_of}
-use Rattle.met_read.specs.declared.things.Met.{Met}
 use Rattle.met_read.specs.Read as met
 use Rattle.doc_load.proofs.text.read_root_text.Goals as goal
 

@@ -1,6 +1,5 @@
-use Rattle.std.proofs.Common.{List, ap, sym, ◌∙◌}
+use Rattle.std.proofs.Common.{ap, ◌∙◌}
 use Rattle.std.specs.Option.{option_map_or}
-use Rattle.doc_model.specs.declared.block.Block.{Block}
 use Rattle.load_model.specs.Blocks.{or_empty}
 use Rattle.load_model.specs.Loaded.{read_text, text_of}
 use Rattle.load_model.specs.declared.element.Element.{Element, out-Element}
