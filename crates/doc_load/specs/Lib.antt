@@ -1,0 +1,5 @@
+pub mod Offences
+pub mod Outcomes
+pub mod Loads
+pub mod Parts
+pub mod Lefts
