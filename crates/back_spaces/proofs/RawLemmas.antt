@@ -18,7 +18,7 @@ use Rattle.spelling_model.specs.Spelling.{Piece, As, Spaces, Placed, behind_spac
 use Rattle.back_spaces.specs.Raws.{raw_of, raws_of}
 
 -- an item is what it opens to
-whole : (item : Item) (what : What-F What Item Note Par) → what_of item ≡ what → item_in (out-Item item).spans what ≡ item
+pub whole : (item : Item) (what : What-F What Item Note Par) → what_of item ≡ what → item_in (out-Item item).spans what ≡ item
 whole item what e =
     ap (λ (one : What). roll-Item (record { spans = (out-Item item).spans; what = one })) (ap roll-What (sym e) ∙ roll-out-What (out-Item item).what) ∙ roll-out-Item item
 
