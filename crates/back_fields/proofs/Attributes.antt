@@ -1,11 +1,11 @@
 -- Attributes as they are named, and that none is left out.
-use Rattle.std.proofs.Common.{◌≡◌, ℕ, ◌&&◌, not, Bool, true, false, cond, List, [], ◌∷◌, ◌++◌, map, filter, length, refl, ap, ap₂, ◌∙◌, Option, Some, None}
+use Rattle.std.proofs.Common.{◌≡◌, ℕ, ◌&&◌, not, Bool, true, cond, List, [], ◌∷◌, ◌++◌, map, filter, length, ap, ap₂, ◌∙◌}
 use Rattle.markup_nodes.specs.declared.words.Attr.{Attr}
 use Rattle.load_model.specs.declared.names.Key.{Key}
 use Rattle.load_model.specs.declared.names.Key.TheVariants as key
 use Rattle.load_model.specs.declared.element.Attribute.{Attribute}
 use Rattle.load_model.specs.Blocks.{left_by}
-use Rattle.load_model.specs.Left.{Left, nothing, only_attributes}
+use Rattle.load_model.specs.Left.{nothing, only_attributes}
 use Rattle.load_model.specs.Values.{Rule, is_read, is_same_key}
 use Rattle.written_model.specs.Elements.{attribute, unless_empty}
 use Rattle.back_names.specs.Named.{key_named, named_attribute}

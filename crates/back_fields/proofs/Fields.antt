@@ -1,10 +1,10 @@
 -- Fields are read back.
-use Rattle.std.proofs.Common.{◌≡◌, ◌≢◌, ℕ, ℤ, pos, ◌≤◌, ◌==◌, ◌++◌, Bool, true, false, cond, List, [], ◌∷◌, map, length, codes, decimal, refl, sym, ap, ap₂, ◌∙◌, arith, eqb-true, Option, Some, None, option_map, is_some}
+use Rattle.std.proofs.Common.{◌≡◌, ℕ, ℤ, pos, ◌≤◌, ◌==◌, ◌++◌, Bool, true, false, cond, List, [], ◌∷◌, map, length, codes, decimal, refl, sym, ap, ap₂, ◌∙◌, arith, eqb-true, Option, Some, option_map, is_some}
 use Rattle.std.specs.List.{AllByRecursion as Each}
 use Rattle.std.specs.Option.{option_map_or}
 use Rattle.markup_nodes.specs.declared.words.Attr.{Attr}
 use Rattle.markup_nodes.specs.declared.tree.Elem.{Elem}
-use Rattle.markup_nodes.specs.Node.{Node, Element}
+use Rattle.markup_nodes.specs.Node.{Node}
 use Rattle.markup_nodes.specs.Nodes.{elems}
 use Rattle.doc_model.specs.declared.field.ChapterShow.{ChapterShow}
 use Rattle.doc_model.specs.declared.field.ChapterShow.TheVariants as chapter
@@ -27,8 +27,8 @@ use Rattle.load_model.specs.declared.names.Key.TheVariants as key
 use Rattle.load_model.specs.declared.names.Tag.{Tag}
 use Rattle.load_model.specs.declared.names.Tag.TheVariants as tag
 use Rattle.load_model.specs.declared.element.Attribute.{Attribute}
-use Rattle.load_model.specs.Blocks.{Around, Gives, ReadContent, element_content, field_content, leaf_items, left_by, no_content, node_content, one_element, own_text}
-use Rattle.load_model.specs.Content.{Read, item_in, is_white, spaced}
+use Rattle.load_model.specs.Blocks.{Around, Gives, ReadContent, element_content, field_content, left_by, node_content, own_text}
+use Rattle.load_model.specs.Content.{Read, item_in, spaced}
 use Rattle.load_model.specs.Fields.{field_of, field_rules, own_name}
 use Rattle.load_model.specs.Left.{Left, nothing, both}
 use Rattle.load_model.specs.Styles.{Names}
@@ -45,7 +45,7 @@ use Rattle.back_fields.specs.Fit.{IsFit, IsName, IsNameOrNone}
 use Rattle.back_fields.specs.Given.{all_kept, given, whole}
 use Rattle.back_fields.proofs.Attributes.{at, at_unless, named_first, named_unless, left_first, left_unless}
 use Rattle.back_fields.proofs.Keys as named
-use Rattle.back_fields.proofs.Opened.{gives_with, element_given}
+use Rattle.back_fields.proofs.Opened.{element_given}
 
 module _ (names : Names) (around : Around) where
   abbrev read_at : Tag → List Attribute → List (Node Gives) → ReadContent

@@ -2,7 +2,7 @@
 use Rattle.std.proofs.Common.{◌≡◌, refl, codes}
 use Rattle.load_model.specs.declared.names.Key.TheVariants as key
 use Rattle.load_model.specs.declared.names.Tag.TheVariants as tag
-use Rattle.load_model.specs.Names.{known_tags, known_keys, office, draw}
+use Rattle.load_model.specs.Names.{known_tags, known_keys}
 use Rattle.back_names.specs.Named.{tag_named, key_named}
 
 pub sequence_tag : tag_named (codes "text:sequence") ≡ tag.Sequence
@@ -76,4 +76,3 @@ reference_format_key = refl
 pub note_class_key : key_named (codes "text:note-class") ≡ key.NoteClass
 unfolding key_named known_keys
 note_class_key = refl
-

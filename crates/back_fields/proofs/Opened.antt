@@ -14,7 +14,7 @@ use Rattle.load_model.specs.Blocks.{Known, Gives, gives_of, element_content, ele
 use Rattle.load_model.specs.Styles.{Names}
 use Rattle.written_model.specs.Elements.{element}
 use Rattle.back_names.specs.Named.{tag_named, named_attribute, named, named_node}
-use Rattle.back_names.proofs.Parts.{elem_of, named_of}
+use Rattle.back_names.proofs.Parts.{named_of}
 use Rattle.back_fields.specs.Given.{all_kept, given}
 
 -- what an element of these parts gives

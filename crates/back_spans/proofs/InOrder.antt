@@ -1,11 +1,11 @@
 -- What is read one after another.
-use Rattle.std.proofs.Common.{◌≡◌, List, [], ◌∷◌, ◌++◌, map, refl, sym, ap, ap₂, ◌∙◌, append-nil}
+use Rattle.std.proofs.Common.{◌≡◌, List, [], ◌∷◌, ◌++◌, map, refl, ap, ap₂, ◌∙◌, append-nil}
 use Rattle.std.specs.List.{flat_map, fold}
 use Rattle.std.proofs.lemmas.Grind.{flat_map-append, fold-append}
 use Rattle.std.proofs.lemmas.List.{map-append}
 use Rattle.markup_nodes.specs.declared.tree.Elem.{Elem}
 use Rattle.markup_nodes.specs.Node.{Node}
-use Rattle.load_model.specs.Blocks.{Around, Gives, ReadContent, content_of, node_content}
+use Rattle.load_model.specs.Blocks.{Around, ReadContent, content_of, node_content}
 use Rattle.load_model.specs.Content.{Raw}
 use Rattle.load_model.specs.Left.{Left, both, nothing, all_of}
 use Rattle.load_model.specs.Styles.{Names}

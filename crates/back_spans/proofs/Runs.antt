@@ -1,5 +1,5 @@
 -- Spans round runs of neighbours.
-use Rattle.std.proofs.Common.{◌≡◌, ℕ, ◌+◌, ◌≤◌, zero, suc, Bool, true, false, cond, List, [], ◌∷◌, ◌++◌, map, length, length-append, codes, refl, sym, ap, ap₂, ◌∙◌, subst, append_assoc, append-nil, arith, bytes_eq, Option, Some, None}
+use Rattle.std.proofs.Common.{◌≡◌, ℕ, ◌+◌, ◌≤◌, zero, suc, Bool, true, false, cond, List, [], ◌∷◌, ◌++◌, map, length, length-append, codes, refl, sym, ap, ap₂, ◌∙◌, subst, append_assoc, append-nil, arith, Option, Some, None}
 use Rattle.std.specs.Prelude.{nat_lt, max, fold, is_some}
 use Rattle.std.specs.List.{flat_map, AllByRecursion as Each}
 use Rattle.std.proofs.lemmas.Bool.Decides.{nat_tests}
@@ -10,7 +10,7 @@ use Rattle.markup_nodes.specs.Node.{Node}
 use Rattle.doc_model.specs.declared.style.Family.TheVariants as family
 use Rattle.load_model.specs.declared.names.Key.TheVariants as key
 use Rattle.load_model.specs.declared.names.Tag.TheVariants as tag
-use Rattle.load_model.specs.Blocks.{Around, Gives, ReadContent, content_of, content_with, left_by, node_content, one_element}
+use Rattle.load_model.specs.Blocks.{Around, ReadContent, content_of, content_with, left_by, node_content, one_element}
 use Rattle.load_model.specs.Content.{Raw}
 use Rattle.load_model.specs.Left.{Left, only_attributes}
 use Rattle.load_model.specs.Names.{known_tags, known_keys}
@@ -20,11 +20,11 @@ use Rattle.written_model.specs.Content.{Spanned, Run, outermost_of, within, is_s
 use Rattle.written_model.specs.Elements.{attribute}
 use Rattle.spelling_model.specs.Spelling.{is_there}
 use Rattle.back_names.specs.Named.{tag_named, key_named}
-use Rattle.back_fields.specs.Given.{all_kept, given, whole}
+use Rattle.back_fields.specs.Given.{given, whole}
 use Rattle.back_fields.proofs.Attributes.{at, named_first, left_first}
 use Rattle.back_fields.proofs.Fields.{element_read}
 use Rattle.back_spans.specs.Spans.{deeper, read_in, IsTextStyle, IsIn}
-use Rattle.back_spans.proofs.InOrder.{Reads, reads_none, reads_one, reads_append, reads_first}
+use Rattle.back_spans.proofs.InOrder.{Reads, reads_one, reads_append, reads_first}
 
 span_tag : tag_named (codes "text:span") ≡ tag.Span
 unfolding tag_named known_tags
@@ -85,7 +85,7 @@ all_filled : (nodes : List Spanned) → AreFilled (runs_of nodes)
 all_filled [] = tt
 all_filled (node ∷ nodes) = front_filled node (runs_of nodes) (all_filled nodes)
 
-each_both : {X : Type 0} (P : X → Type 0) (xs ys : List X) → Each P (xs ++ ys) → Each P xs × Each P ys
+pub each_both : {X : Type 0} (P : X → Type 0) (xs ys : List X) → Each P (xs ++ ys) → Each P xs × Each P ys
 each_both P [] ys each = (tt, each)
 each_both P (x ∷ xs) ys each = let rest = each_both P xs ys each.1 in ((each.0, rest.0), rest.1)
 
