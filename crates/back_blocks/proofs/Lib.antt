@@ -3,3 +3,4 @@ pub mod Joins
 pub mod Opened
 pub mod Sections
 pub mod Text
+pub mod Unnumbered

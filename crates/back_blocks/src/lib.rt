@@ -4,4 +4,4 @@
 
 mod laws;
 
-pub use laws::{blocks_are_read_back, text_is_read_back};
+pub use laws::{blocks_are_read_back, numbers_are_not_written, text_is_read_back};
