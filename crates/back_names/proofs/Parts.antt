@@ -1,17 +1,16 @@
 -- What elements are by their parts.
-use Rattle.std.proofs.Common.{◌≡◌, ℕ, List, [], ◌∷◌, map, refl, ap, ap₂, sym, subst, ◌∙◌}
+use Rattle.std.proofs.Common.{◌≡◌, ℕ, List, [], ◌∷◌, map, refl, ap, sym, ◌∙◌}
 use mathlib.Core.Former.{this}
 use Rattle.markup_nodes.specs.formers.nodes.Nodes.{the_former}
 use Rattle.markup_nodes.specs.declared.words.Attr.{Attr}
 use Rattle.markup_nodes.specs.declared.tree.Elem.{Elem, out-Elem, roll-Elem}
 use Rattle.markup_nodes.specs.declared.tree.Elem.TheOpen.{Elem-F}
 use Rattle.markup_nodes.specs.declared.tree.Elem.TheViews.{out-roll-Elem}
-use Rattle.markup_nodes.specs.declared.tree.Elem.TheFolds.{fold_out-Elem, fold-roll-Elem, map-Elem, ind-Elem}
+use Rattle.markup_nodes.specs.declared.tree.Elem.TheFolds.{fold_out-Elem, fold-roll-Elem}
 use Rattle.markup_nodes.specs.Node.{Node, Element, Char}
 use Rattle.load_model.specs.declared.element.Element.{Element as Read, roll-Element}
-use Rattle.load_model.specs.declared.element.Element.TheFolds.{fold-roll-Element}
 use Rattle.tree_text.specs.Writing.{unplaced, unplaced_elem}
-use Rattle.back_names.specs.Named.{tag_named, named_attribute, named_elem, named, named_node, placeless, placeless_elem, placeless_node}
+use Rattle.back_names.specs.Named.{tag_named, named_attribute, named_elem, named, named_node, placeless, placeless_node}
 
 abbrev pub elem_of : ℕ → List ℕ → List Attr → List (Node Elem) → Elem
 elem_of place name attrs nodes = roll-Elem (record { place = place; name = name; attrs = attrs; nodes = nodes })

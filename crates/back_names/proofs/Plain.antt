@@ -1,5 +1,5 @@
 -- Elements whose names need nothing but what the root of a written document binds.
-use Rattle.std.proofs.Common.{◌≡◌, ℕ, ◌&&◌, ◌||◌, not, Bool, true, false, cond, List, [], ◌∷◌, ◌++◌, map, refl, ap, ap₂, sym, subst, ◌∙◌, codes, Some, None}
+use Rattle.std.proofs.Common.{◌≡◌, ℕ, ◌&&◌, not, Bool, true, false, cond, List, [], ◌∷◌, ◌++◌, map, refl, ap, ap₂, sym, subst, ◌∙◌, codes, Some, None}
 use Rattle.std.specs.List.{flat_map, list_all}
 use Rattle.std.specs.Str.{bytes_eq}
 use Rattle.std.proofs.lemmas.Bool.{and_parts, or_parts, not-true}
@@ -12,13 +12,12 @@ use Rattle.markup_nodes.specs.declared.tree.Elem.TheViews.{out-roll-Elem}
 use Rattle.markup_nodes.specs.declared.tree.Elem.TheFolds.{fold-Elem, fold_out-Elem, fold-roll-Elem, map-Elem, ind-Elem}
 use Rattle.markup_nodes.specs.Node.{Node, Element, Char}
 use Rattle.markup_nodes.specs.Nodes.{elems}
-use Rattle.load_model.specs.declared.element.Element.{Element as Read, roll-Element}
-use Rattle.load_model.specs.declared.element.Attribute.{Attribute}
-use Rattle.load_model.specs.Names.{Binding, Cut, cut_name, is_same_prefix, can_be_declared, is_declaration, declared_by, bindings_within, has_bad_names, resolved_attribute, resolved_in, places_of_bad_names, bad_places_around}
+use Rattle.load_model.specs.declared.element.Element.{Element as Read}
+use Rattle.load_model.specs.Names.{Binding, cut_name, is_same_prefix, can_be_declared, is_declaration, declared_by, bindings_within, has_bad_names, resolved_in, places_of_bad_names, bad_places_around}
 use Rattle.tree_text.specs.Writing.{unplaced}
 use Rattle.expanded_names.proofs.TreeLemmas.{read_node, read_of, resolved_out}
-use Rattle.back_names.specs.Named.{bound, tag_named, key_named, named_attribute, named, named_node}
-use Rattle.back_names.proofs.Parts.{elem_of, each_node, unplaced_node, unplaced_of, named_of, named_out}
+use Rattle.back_names.specs.Named.{bound, tag_named, key_named, named, named_node}
+use Rattle.back_names.proofs.Parts.{elem_of, each_node, unplaced_node, unplaced_of, named_of}
 
 -- whether no attribute declares anything
 abbrev pub declares_nothing : List Attr → Bool

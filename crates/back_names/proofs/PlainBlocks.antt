@@ -1,20 +1,20 @@
 -- Paragraphs, notes, sections and declarations are plain, and so is all that the root holds.
-use Rattle.std.proofs.Common.{◌≡◌, ℕ, Bool, true, false, List, [], ◌∷◌, ◌++◌, map, refl, ap, sym, ◌∙◌, subst, codes, decimal, Option, Some, None, zero, suc, cond}
+use Rattle.std.proofs.Common.{◌≡◌, ℕ, Bool, true, false, List, [], ◌∷◌, ◌++◌, map, refl, sym, subst, codes, decimal, Option, Some, None, zero, suc, cond}
 use Rattle.std.specs.List.{AllByRecursion as Each}
 use Rattle.markup_nodes.specs.declared.words.Attr.{Attr}
 use Rattle.markup_nodes.specs.declared.tree.Elem.{Elem}
 use Rattle.markup_nodes.specs.Node.{Node}
-use Rattle.doc_model.specs.declared.block.Block.{Block, roll-Block}
-use Rattle.doc_model.specs.declared.block.Block.TheOpen.{Block-F, Section-F}
+use Rattle.doc_model.specs.declared.block.Block.{Block}
+use Rattle.doc_model.specs.declared.block.Block.TheOpen.{Section-F}
 use Rattle.doc_model.specs.declared.block.Block.TheFolds.{fold-roll-Block, fold-roll-Section}
-use Rattle.doc_model.specs.declared.block.Section.{Section, roll-Section}
+use Rattle.doc_model.specs.declared.block.Section.{Section}
 use Rattle.doc_model.specs.declared.block.SectionSource.{SectionSource}
 use Rattle.doc_model.specs.declared.paragraph.Par.{Par, out-Par}
 use Rattle.doc_model.specs.declared.paragraph.ListPos.{ListPos}
 use Rattle.doc_model.specs.declared.paragraph.Note.{Note, out-Note}
 use Rattle.doc_model.specs.declared.document.Document.{Document}
 use Rattle.draft_numbers.proofs.BlockLemmas.{par_block, section_block, of_block}
-use Rattle.written_model.specs.Elements.{attribute, unless_empty, where_true, element, empty_element, part}
+use Rattle.written_model.specs.Elements.{attribute, unless_empty, where_true, element, empty_element}
 use Rattle.written_model.specs.Values.{truth, class_text}
 use Rattle.written_model.specs.Content.{content}
 use Rattle.written_model.specs.Blocks.{bare_paragraph, entry_element, nested_entry, below, listed_paragraph, paragraph, note_element, source_element, block_element}

@@ -1,14 +1,13 @@
 -- The content of paragraphs is plain.
-use Rattle.std.proofs.Common.{◌≡◌, ℕ, ◌&&◌, Bool, true, false, cond, List, [], ◌∷◌, ◌++◌, map, refl, ap, sym, ◌∙◌, codes, decimal, Option, Some, None, zero, suc, subst}
+use Rattle.std.proofs.Common.{◌≡◌, ℕ, ◌&&◌, Bool, true, false, cond, List, [], ◌∷◌, map, refl, codes, decimal, Option, Some, None, zero, suc}
 use Rattle.std.specs.List.{flat_map, list_all}
 use Rattle.std.proofs.lemmas.Bool.{and_parts, and_from}
-use Rattle.markup_nodes.specs.declared.words.Attr.{Attr}
 use Rattle.markup_nodes.specs.declared.tree.Elem.{Elem}
-use Rattle.markup_nodes.specs.Node.{Node, Element, Char}
+use Rattle.markup_nodes.specs.Node.{Node}
 use Rattle.doc_model.specs.declared.field.Field.{Field}
 use Rattle.doc_model.specs.declared.field.Field.TheVariants.{Sequence, VarSet, VarGet, Chapter, PageNumber, PageCount, BookRef, SeqRef, NoteRef}
 use Rattle.doc_model.specs.declared.paragraph.Par.{Par}
-use Rattle.doc_model.specs.declared.paragraph.Item.{Item, out-Item}
+use Rattle.doc_model.specs.declared.paragraph.Item.{Item}
 use Rattle.doc_model.specs.declared.paragraph.What.{What}
 use Rattle.doc_model.specs.declared.paragraph.What.TheOpen.{What-F}
 use Rattle.doc_model.specs.declared.paragraph.Note.{Note}
@@ -16,10 +15,10 @@ use Rattle.doc_model.specs.declared.paragraph.Mark.{Mark}
 use Rattle.doc_model.specs.declared.paragraph.Mark.TheVariants.{Point, Start, End}
 use Rattle.doc_model.specs.Parts.{what_of}
 use Rattle.spelling_model.specs.Spelling.{Piece, As, Spaces, pieces_of, placed}
-use Rattle.written_model.specs.Elements.{attribute, unless_empty, element, empty_element, characters}
+use Rattle.written_model.specs.Elements.{attribute, empty_element, characters}
 use Rattle.written_model.specs.Values.{format_text, chapter_text, select_text, reference_text, sequence_text, class_text, whole_text}
-use Rattle.written_model.specs.Fields.{format_attribute, field_element}
-use Rattle.written_model.specs.Content.{spaces_element, mark_element, what_node, piece_node, Spanned, spanned, Run, outermost_of, within, is_same_span, in_front_of, runs_of, span_element, of_run, in_spans, span_depth, content, bare_items, head_content}
+use Rattle.written_model.specs.Fields.{field_element}
+use Rattle.written_model.specs.Content.{spaces_element, mark_element, what_node, Spanned, spanned, Run, outermost_of, within, is_same_span, in_front_of, runs_of, span_element, of_run, in_spans, span_depth, content, bare_items, head_content}
 use Rattle.back_names.proofs.Plain.{is_plain_node}
 use Rattle.back_names.proofs.Rows.{no_rows, joined, given_first, unless_row}
 use Rattle.back_names.proofs.PlainLists.{IsPlain, ArePlain, element_plain, one_plain, both_plain, characters_plain}

@@ -1,10 +1,10 @@
 -- Nodes that are plain, several at a time.
-use Rattle.std.proofs.Common.{◌≡◌, ℕ, ◌&&◌, Bool, true, List, [], ◌∷◌, ◌++◌, map, refl, ap, ap₂, sym, ◌∙◌}
-use Rattle.std.specs.List.{flat_map, list_all}
+use Rattle.std.proofs.Common.{◌≡◌, ℕ, true, List, [], ◌∷◌, ◌++◌, map, refl, ap, ◌∙◌}
+use Rattle.std.specs.List.{list_all}
 use Rattle.std.proofs.lemmas.Bool.{and_parts, and_from}
 use Rattle.markup_nodes.specs.declared.words.Attr.{Attr}
 use Rattle.markup_nodes.specs.declared.tree.Elem.{Elem}
-use Rattle.markup_nodes.specs.Node.{Node, Element, Char}
+use Rattle.markup_nodes.specs.Node.{Node}
 use Rattle.written_model.specs.Elements.{element, empty_element, part, properties, characters}
 use Rattle.back_names.proofs.Plain.{is_fine, is_plain_node, plain_of}
 use Rattle.back_names.proofs.Rows.{Row, AreByRows, all_named, no_rows, rows_fine}

@@ -1,6 +1,5 @@
 -- The parts of styles and masters are plain.
-use Rattle.std.proofs.Common.{◌≡◌, ℕ, not, true, List, [], ◌∷◌, ◌++◌, map, filter, refl, codes, decimal}
-use Rattle.std.specs.List.{list_all}
+use Rattle.std.proofs.Common.{not, List, [], ◌∷◌, ◌++◌, map, filter, refl, codes, decimal}
 use Rattle.markup_nodes.specs.declared.tree.Elem.{Elem}
 use Rattle.markup_nodes.specs.Node.{Node}
 use Rattle.doc_model.specs.declared.style.Style.{Style}

@@ -14,8 +14,8 @@ use Rattle.expanded_names.proofs.TreeLemmas.{read_node, read_of, resolved_out}
 use Rattle.written_model.specs.Elements.{attribute, element}
 use Rattle.written_model.specs.Styles.{styles_part, automatic_part, masters_part}
 use Rattle.written_model.specs.Written.{namespaces, mimetype, text_element, written}
-use Rattle.back_names.specs.Named.{bound, tag_named, key_named, named, named_node}
-use Rattle.back_names.proofs.Parts.{AreAlike, alike, named_out}
+use Rattle.back_names.specs.Named.{bound, tag_named, key_named, named}
+use Rattle.back_names.proofs.Parts.{alike, named_out}
 use Rattle.back_names.proofs.Plain.{is_plain_node, own_places, bad_in, bad_out, nodes_back, alike_plain}
 use Rattle.back_names.proofs.Rows.{no_rows}
 use Rattle.back_names.proofs.PlainLists.{ArePlain, element_plain, one_plain, both_plain}

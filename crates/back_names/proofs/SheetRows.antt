@@ -1,12 +1,10 @@
 -- The attributes of styles, list styles, layouts and masters by rows.
-use Rattle.std.proofs.Common.{◌≡◌, ℕ, List, [], ◌∷◌, ◌++◌, refl, codes, decimal, zero, suc, Option, Some, None}
+use Rattle.std.proofs.Common.{ℕ, List, [], ◌∷◌, ◌++◌, refl, codes, decimal, zero, suc, Option, Some, None}
 use Rattle.markup_nodes.specs.declared.words.Attr.{Attr}
 use Rattle.doc_model.specs.declared.style.Style.{Style}
 use Rattle.doc_model.specs.declared.style.Props.{Props}
 use Rattle.doc_model.specs.declared.field.Format.{Format}
-use Rattle.doc_model.specs.declared.list_style.ListLevel.{ListLevel}
-use Rattle.doc_model.specs.declared.list_style.LevelWhat.{LevelWhat}
-use Rattle.doc_model.specs.declared.list_style.LevelWhat.TheVariants.{Bullet, Number}
+use Rattle.doc_model.specs.declared.list_style.LevelWhat.TheVariants.{Number}
 use Rattle.doc_model.specs.declared.page_layout.PageLayout.{PageLayout}
 use Rattle.doc_model.specs.declared.page_layout.Master.{Master}
 use Rattle.style_model.specs.Lengths.{length_spelling}

@@ -1,5 +1,5 @@
 -- What names mean in a document that was written, wherever they stand in it.
-use Rattle.std.specs.Prelude.{ℕ, List, [], ◌∷◌, map, codes}
+use Rattle.std.specs.Prelude.{ℕ, List, map}
 use Rattle.std.specs.List.{flat_map}
 use Rattle.markup_nodes.specs.declared.words.Attr.{Attr}
 use Rattle.markup_nodes.specs.declared.tree.Elem.{Elem}
