@@ -32,4 +32,3 @@ bookmark_end_tag = refl
 pub count_key : key_named (codes "text:c") ≡ key.Count
 unfolding key_named known_keys
 count_key = refl
-

@@ -1,5 +1,5 @@
 -- The pieces of a paragraph are read back.
-use Rattle.std.proofs.Common.{◌≡◌, ℕ, ◌+◌, ◌≤◌, suc, Bool, true, false, not, ◌&&◌, cond, List, [], ◌∷◌, ◌++◌, map, length, refl, sym, ap, ap₂, ◌∙◌, arith, bytes_eq}
+use Rattle.std.proofs.Common.{◌≡◌, ℕ, ◌+◌, ◌≤◌, suc, Bool, true, false, not, ◌&&◌, cond, List, [], ◌∷◌, ◌++◌, map, length, refl, ap, ap₂, ◌∙◌, arith, bytes_eq}
 use Rattle.std.specs.Cmp.Lexicographic.{pointwise}
 use Rattle.std.specs.List.{flat_map, AllByRecursion as Each}
 use Rattle.markup_nodes.specs.declared.tree.Elem.{Elem}
@@ -11,7 +11,7 @@ use Rattle.load_model.specs.Blocks.{Around, ReadContent, content_of}
 use Rattle.load_model.specs.Content.{Raw, items_of_raw}
 use Rattle.load_model.specs.Styles.{Names}
 use Rattle.written_model.specs.Content.{Spanned, spanned, content}
-use Rattle.spelling_model.specs.Spelling.{Piece, As, Spaces, Placed, behind_space, is_space, pieces_of, placed, stands_for_itself}
+use Rattle.spelling_model.specs.Spelling.{Piece, As, Spaces, behind_space, is_space, pieces_of, placed, stands_for_itself}
 use Rattle.back_fields.specs.Given.{given, whole}
 use Rattle.back_spaces.specs.Raws.{raws_of}
 use Rattle.back_spaces.proofs.RawLemmas.{spaces_back as items_back}

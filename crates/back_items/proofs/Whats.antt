@@ -1,7 +1,6 @@
 -- What items are is read back.
-use Rattle.std.proofs.Common.{◌≡◌, ℕ, ◌≤◌, zero, suc, Bool, true, List, [], ◌∷◌, map, replicate, codes, decimal, refl, sym, ap, ap₂, ◌∙◌, arith, Option, Some, is_some}
+use Rattle.std.proofs.Common.{◌≡◌, ℕ, ◌≤◌, zero, suc, Bool, List, [], ◌∷◌, map, replicate, codes, decimal, refl, ap, ap₂, ◌∙◌, arith, Option, is_some}
 use Rattle.std.specs.Option.{option_map_or}
-use Rattle.std.specs.List.{AllByRecursion as Each}
 use Rattle.markup_nodes.specs.declared.tree.Elem.{Elem}
 use Rattle.markup_nodes.specs.Node.{Node}
 use Rattle.doc_model.specs.declared.paragraph.Item.{Item, out-Item}
@@ -14,21 +13,20 @@ use Rattle.doc_model.specs.declared.paragraph.What.TheOpen.{What-F}
 use Rattle.doc_model.specs.Parts.{what_of, mark_name}
 use Rattle.load_model.specs.declared.names.Key.TheVariants as key
 use Rattle.load_model.specs.declared.names.Tag.TheVariants as tag
-use Rattle.load_model.specs.declared.element.Attribute.{Attribute}
-use Rattle.load_model.specs.Blocks.{Around, ReadContent, left_by, mark_content, node_content, spaces_content}
+use Rattle.load_model.specs.Blocks.{Around, ReadContent, mark_content, node_content, spaces_content}
 use Rattle.load_model.specs.Content.{Raw, Read, item_in, raw_character}
 use Rattle.load_model.specs.Left.{Left, both, nothing}
 use Rattle.load_model.specs.Styles.{Names}
 use Rattle.load_model.specs.Values as value
 use Rattle.load_model.specs.Values.{rule}
 use Rattle.written_model.specs.Content.{mark_element, spaces_element, what_node}
-use Rattle.written_model.specs.Elements.{attribute, empty_element}
+use Rattle.written_model.specs.Elements.{attribute}
 use Rattle.back_fields.specs.Fit.{IsName}
 use Rattle.back_fields.specs.Given.{all_kept, given, whole}
 use Rattle.back_fields.proofs.Attributes.{at, named_first, left_first}
 use Rattle.back_fields.proofs.Fields.{element_read, field_back}
 use Rattle.back_fields.proofs.Keys as field_name
-use Rattle.back_spaces.specs.Raws.{raw_of, raws_of}
+use Rattle.back_spaces.specs.Raws.{raw_of}
 use Rattle.back_spaces.proofs.RawLemmas.{whole as whole_item}
 use Rattle.back_values.proofs.Numbers.{number_back}
 use Rattle.back_values.proofs.Texts.{name_back}
