@@ -1,6 +1,5 @@
 -- Paragraphs without their lists.
-use Rattle.std.proofs.Common.{◌≡◌, ℕ, ◌≤◌, zero, suc, Bool, List, [], ◌∷◌, ◌++◌, map, codes, decimal, refl, sym, ap, ap₂, ◌∙◌, arith, Option, Some, is_some}
-use Rattle.std.specs.List.{AllByRecursion as Each}
+use Rattle.std.proofs.Common.{◌≡◌, ℕ, zero, suc, Bool, List, [], ◌∷◌, ◌++◌, map, codes, decimal, refl, sym, ap, ap₂, ◌∙◌, arith, Option, Some, is_some}
 use Rattle.std.specs.Option.{option_map_or}
 use Rattle.markup_nodes.specs.declared.tree.Elem.{Elem}
 use Rattle.markup_nodes.specs.Node.{Node, Element}
@@ -10,11 +9,9 @@ use Rattle.doc_model.specs.declared.paragraph.Note.{Note}
 use Rattle.doc_model.specs.declared.paragraph.Par.{Par, out-Par, roll-Par}
 use Rattle.doc_model.specs.declared.style.Family.TheVariants as family
 use Rattle.load_model.specs.declared.names.Key.TheVariants as key
-use Rattle.load_model.specs.declared.names.Tag.{Tag}
 use Rattle.load_model.specs.declared.names.Tag.TheVariants as tag
 use Rattle.load_model.specs.declared.element.Attribute.{Attribute}
 use Rattle.load_model.specs.Blocks.{Gives, Lists, ReadBlocks, ReadContent, as_block, content_of, heading_rules, left_by, list_place, paragraph_block, paragraph_rules}
-use Rattle.load_model.specs.Content.{items_of_raw}
 use Rattle.load_model.specs.Left.{Left, both, nothing}
 use Rattle.load_model.specs.Styles.{Names, style_reference}
 use Rattle.load_model.specs.Values as value
@@ -26,11 +23,10 @@ use Rattle.back_fields.specs.Given.{all_kept, given}
 use Rattle.back_fields.proofs.Attributes.{at, at_unless, left_first, named_first, named_unless}
 use Rattle.back_fields.proofs.Keys as field_name
 use Rattle.back_fields.proofs.Opened.{gives_with}
-use Rattle.back_items.specs.Items.{IsReadAs}
 use Rattle.back_items.proofs.Pieces.{content_back}
 use Rattle.back_spans.proofs.Runs.{style_name_key}
 use Rattle.back_values.proofs.Numbers.{heading_back}
-use Rattle.back_paragraphs.specs.Paragraphs.{IsNoneOrGood, IsReadablePar, whole_blocks}
+use Rattle.back_paragraphs.specs.Paragraphs.{IsReadablePar, whole_blocks}
 use Rattle.back_paragraphs.proofs.Keys as named
 use Rattle.back_paragraphs.proofs.Parts.{gives_at, style_attributes, style_left, style_stated}
 
@@ -72,7 +68,7 @@ module _ (names : Names) (in_note : Bool) (note_node : Note → Node Elem) (par 
   levelled zero e = record {
     gives = gives_with (all_kept names) tag.Paragraph (at_unless key.StyleName (out-Par par).style []) (map (given names) (content note_node (out-Par par).items));
     is = gives_at names (codes "text:p") (unless_empty (codes "text:style-name") (out-Par par).style) (content note_node (out-Par par).items) tag.Paragraph (at_unless key.StyleName (out-Par par).style []) named.paragraph_tag
-    (style_attributes (out-Par par).style style_name_key);
+        (style_attributes (out-Par par).style style_name_key);
     read = λ level style.
         ap (λ (number : ℕ). paragraph_block (all_kept names) (record { level = level; style = style; in_note = in_note }) 0 number (paragraph_rules (all_kept names)) (at_unless key.StyleName (out-Par par).style []) (map (given names) (content note_node (out-Par par).items))) (sym e)
         ∙ block_is level style (at_unless key.StyleName (out-Par par).style []) (paragraph_rules (all_kept names))
@@ -81,8 +77,8 @@ module _ (names : Names) (in_note : Bool) (note_node : Note → Node Elem) (par 
   levelled (suc deeper) e = record {
     gives = gives_with (all_kept names) tag.Heading attributes (map (given names) (content note_node (out-Par par).items));
     is = gives_at names (codes "text:h") (unless_empty (codes "text:style-name") (out-Par par).style ++ attribute (codes "text:outline-level") (decimal (suc deeper)) ∷ []) (content note_node (out-Par par).items) tag.Heading attributes named.heading_tag
-    (named_unless (codes "text:style-name") (out-Par par).style key.StyleName (attribute (codes "text:outline-level") (decimal (suc deeper)) ∷ []) (at key.OutlineLevel (decimal (suc deeper)) ∷ []) style_name_key
-    (named_first (codes "text:outline-level") (decimal (suc deeper)) key.OutlineLevel [] [] field_name.outline_level_key refl));
+        (named_unless (codes "text:style-name") (out-Par par).style key.StyleName (attribute (codes "text:outline-level") (decimal (suc deeper)) ∷ []) (at key.OutlineLevel (decimal (suc deeper)) ∷ []) style_name_key
+        (named_first (codes "text:outline-level") (decimal (suc deeper)) key.OutlineLevel [] [] field_name.outline_level_key refl));
     read = λ level style.
         ap (λ (number : ℕ). paragraph_block (all_kept names) (record { level = level; style = style; in_note = in_note }) 0 number (heading_rules (all_kept names)) attributes (map (given names) (content note_node (out-Par par).items)))
         (level_stated (out-Par par).style ∙ sym e)

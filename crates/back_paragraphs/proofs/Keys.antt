@@ -44,4 +44,3 @@ continue_key = refl
 pub id_key : key_named (codes "text:id") ≡ key.Id
 unfolding key_named known_keys
 id_key = refl
-

@@ -1,5 +1,5 @@
 -- A paragraph alone in its list.
-use Rattle.std.proofs.Common.{◌≡◌, ◌≢◌, ℕ, ◌+◌, ◌≤◌, ◌==◌, ◌||◌, ◌&&◌, not, zero, suc, Bool, true, false, cond, List, [], ◌∷◌, ◌++◌, map, codes, refl, sym, ap, ap₂, ◌∙◌, arith, add-one, Option, Some, None, option_map, is_some}
+use Rattle.std.proofs.Common.{◌≡◌, ℕ, ◌+◌, ◌≤◌, ◌==◌, ◌||◌, ◌&&◌, not, zero, suc, Bool, true, false, cond, List, [], ◌∷◌, ◌++◌, map, codes, refl, sym, ap, ap₂, ◌∙◌, arith, Option, Some, None, option_map, is_some}
 use Rattle.std.specs.List.{list_any, AllByRecursion as Each}
 use Rattle.std.specs.Option.{option_map_or}
 use Rattle.std.specs.Prelude.{if◌then◌else◌}
@@ -17,10 +17,9 @@ use Rattle.doc_model.specs.declared.paragraph.What.{What}
 use Rattle.doc_model.specs.declared.paragraph.What.TheOpen.{Par-F}
 use Rattle.doc_model.specs.declared.paragraph.What.TheViews.{out-roll-Par, roll-out-Par}
 use Rattle.load_model.specs.declared.names.Key.TheVariants as key
-use Rattle.load_model.specs.declared.names.Tag.{Tag}
 use Rattle.load_model.specs.declared.names.Tag.TheVariants as tag
 use Rattle.load_model.specs.declared.element.Attribute.{Attribute}
-use Rattle.load_model.specs.Blocks.{Gives, Lists, ReadBlocks, as_block, blocks_alone, blocks_with, entry_blocks, first_changed, inner_list, is_directly_in, joined_blocks, left_by, list_blocks, list_place, paragraphs_of, with_place}
+use Rattle.load_model.specs.Blocks.{Gives, Lists, ReadBlocks, as_block, blocks_alone, blocks_with, entry_blocks, first_changed, is_directly_in, joined_blocks, left_by, list_blocks, list_place, paragraphs_of, with_place}
 use Rattle.load_model.specs.Left.{Left, nothing}
 use Rattle.load_model.specs.Styles.{Names, reference}
 use Rattle.load_model.specs.Values as value
@@ -201,12 +200,12 @@ module _ (names : Names) (in_note : Bool) (par : Par) where
       record {
         gives = gives_with (all_kept names) tag.List attributes (given names inside ∷ []);
         is = gives_at names (codes "text:list") (unless_empty (codes "text:style-name") place.style ++ attribute (codes "text:continue-numbering") (truth (if place.fresh then false else true)) ∷ []) (inside ∷ []) tag.List attributes named.list_tag
-        (named_unless (codes "text:style-name") place.style key.StyleName (attribute (codes "text:continue-numbering") (truth (if place.fresh then false else true)) ∷ []) (at key.ContinueNumbering (truth (if place.fresh then false else true)) ∷ []) style_name_key
-        (named_first (codes "text:continue-numbering") (truth (if place.fresh then false else true)) key.ContinueNumbering [] [] named.continue_key refl));
+            (named_unless (codes "text:style-name") place.style key.StyleName (attribute (codes "text:continue-numbering") (truth (if place.fresh then false else true)) ∷ []) (at key.ContinueNumbering (truth (if place.fresh then false else true)) ∷ []) style_name_key
+            (named_first (codes "text:continue-numbering") (truth (if place.fresh then false else true)) key.ContinueNumbering [] [] named.continue_key refl));
         read =
             ap (λ (one : Node Gives). list_blocks (all_kept names) (outside in_note) attributes (elems (one ∷ []))) entry.is
-                ∙ outermost place good entry.gives (below place.level) place.item entry.read
-                ∙ ap (λ (n : ℕ). whole_blocks (as_block (par_at par (Some (place_in n place.style place.item place.fresh))) ∷ [])) (first_and_more place.level low);
+            ∙ outermost place good entry.gives (below place.level) place.item entry.read
+            ∙ ap (λ (n : ℕ). whole_blocks (as_block (par_at par (Some (place_in n place.style place.item place.fresh))) ∷ [])) (first_and_more place.level low);
       } where
         first_and_more : (level : ℕ) → 1 ≤ level → 1 + below level ≡ level
         first_and_more zero low = absurd (omega arith)

@@ -1,9 +1,8 @@
 -- Notes are read back.
-use Rattle.std.proofs.Common.{◌≡◌, ◌≢◌, ℕ, Bool, true, false, List, [], ◌∷◌, ◌++◌, map, codes, refl, sym, ap, ap₂, ◌∙◌, append-nil, Option, Some, is_some}
+use Rattle.std.proofs.Common.{◌≡◌, ◌≢◌, ℕ, true, false, List, [], ◌∷◌, ◌++◌, map, codes, refl, ap, ap₂, ◌∙◌, append-nil, Option, is_some}
 use Rattle.std.specs.Option.{option_map_or}
 use Rattle.markup_nodes.specs.declared.tree.Elem.{Elem}
-use Rattle.markup_nodes.specs.Node.{Node, Element}
-use Rattle.markup_nodes.specs.Nodes.{elems}
+use Rattle.markup_nodes.specs.Node.{Node}
 use Rattle.doc_model.specs.declared.block.Block.{Block}
 use Rattle.doc_model.specs.declared.block.Block.TheViews.{out-roll-Block}
 use Rattle.doc_model.specs.declared.field.NoteClass.{NoteClass}
@@ -33,7 +32,7 @@ use Rattle.back_fields.proofs.Fields.{element_read}
 use Rattle.back_fields.proofs.Opened.{gives_with}
 use Rattle.back_values.proofs.Texts.{own_back}
 use Rattle.back_values.proofs.Words.{class_back}
-use Rattle.back_paragraphs.specs.Paragraphs.{IsReadableNote, outside, parts_of, whole_blocks}
+use Rattle.back_paragraphs.specs.Paragraphs.{IsReadableNote, parts_of, whole_blocks}
 use Rattle.back_paragraphs.proofs.Keys as named
 use Rattle.back_paragraphs.proofs.Lists.{pars_read}
 use Rattle.back_paragraphs.proofs.Parts.{gives_at}

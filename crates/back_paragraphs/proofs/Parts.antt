@@ -1,6 +1,6 @@
 -- Blocks that are read one after another, and attributes that name a style.
-use Rattle.std.proofs.Common.{◌≡◌, ℕ, ◌≤◌, List, [], ◌∷◌, ◌++◌, map, refl, ap, ap₂, ◌∙◌, inl, inr, codes, Option, Some, is_some}
-use Rattle.std.specs.List.{flat_map, fold, AllByRecursion as Each}
+use Rattle.std.proofs.Common.{◌≡◌, ℕ, List, [], ◌∷◌, ◌++◌, map, refl, ap, ap₂, ◌∙◌, inl, inr, codes, Option, is_some}
+use Rattle.std.specs.List.{flat_map, fold}
 use Rattle.std.specs.Option.{option_map_or}
 use Rattle.markup_nodes.specs.declared.words.Attr.{Attr}
 use Rattle.markup_nodes.specs.declared.tree.Elem.{Elem}
@@ -10,8 +10,8 @@ use Rattle.doc_model.specs.declared.block.Block.{Block}
 use Rattle.load_model.specs.declared.names.Key.TheVariants as key
 use Rattle.load_model.specs.declared.names.Tag.{Tag}
 use Rattle.load_model.specs.declared.element.Attribute.{Attribute}
-use Rattle.load_model.specs.Blocks.{Gives, Lists, ReadBlocks, ReadDeclarations, ReadSource, joined_blocks, left_by}
-use Rattle.load_model.specs.Left.{Left, both, nothing}
+use Rattle.load_model.specs.Blocks.{Gives, Lists, ReadBlocks, joined_blocks, left_by}
+use Rattle.load_model.specs.Left.{both, nothing}
 use Rattle.load_model.specs.Styles.{Names}
 use Rattle.load_model.specs.Values.{Rule, rule, stated_or}
 use Rattle.written_model.specs.Elements.{element, unless_empty}
