@@ -1,5 +1,5 @@
 -- What is read one after another, with sources and declarations, and attributes that may be absent.
-use Rattle.std.proofs.Common.{◌≡◌, ℕ, Bool, true, false, cond, List, [], ◌∷◌, ◌++◌, map, codes, refl, ap, ap₂, ◌∙◌, Option, Some, None, option_map}
+use Rattle.std.proofs.Common.{◌≡◌, ℕ, Bool, true, false, cond, List, [], ◌∷◌, ◌++◌, map, refl, ap, ◌∙◌, Some, option_map}
 use Rattle.std.specs.List.{flat_map, find, fold}
 use Rattle.markup_nodes.specs.declared.words.Attr.{Attr}
 use Rattle.markup_nodes.specs.declared.tree.Elem.{Elem}
@@ -9,7 +9,7 @@ use Rattle.doc_model.specs.declared.block.Block.{Block}
 use Rattle.load_model.specs.declared.names.Key.{Key}
 use Rattle.load_model.specs.declared.element.Attribute.{Attribute}
 use Rattle.load_model.specs.Blocks.{Gives, Lists, ReadBlocks, ReadDeclarations, ReadSource, joined_blocks, left_by}
-use Rattle.load_model.specs.Left.{Left, both, nothing}
+use Rattle.load_model.specs.Left.{both, nothing}
 use Rattle.load_model.specs.Styles.{Names}
 use Rattle.load_model.specs.Values.{Rule, is_read, is_same_key, value_of}
 use Rattle.written_model.specs.Elements.{where_true}

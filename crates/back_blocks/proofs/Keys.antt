@@ -48,4 +48,3 @@ value_type_key = refl
 pub outline_shown_key : key_named (codes "text:display-outline-level") ≡ key.Uncounted
 unfolding key_named known_keys
 outline_shown_key = refl
-

@@ -1,7 +1,5 @@
 -- Blocks as they are written, one level deep.
-use Rattle.std.proofs.Common.{◌≡◌, List, ◌++◌, map, codes}
-use Rattle.markup_nodes.specs.declared.tree.Elem.{Elem}
-use Rattle.markup_nodes.specs.Node.{Node}
+use Rattle.std.proofs.Common.{◌≡◌, ◌++◌, map, codes}
 use Rattle.doc_model.specs.declared.block.Block.{Block}
 use Rattle.doc_model.specs.declared.block.Block.TheOpen.{Section-F}
 use Rattle.doc_model.specs.declared.block.Block.TheFolds.{fold-roll-Block, fold-roll-Section}

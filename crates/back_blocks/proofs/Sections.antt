@@ -1,12 +1,12 @@
 -- Sections with their sources are read back.
-use Rattle.std.proofs.Common.{◌≡◌, ◌≢◌, ℕ, ◌+◌, zero, suc, not, Bool, true, false, List, [], ◌∷◌, ◌++◌, map, length, codes, refl, sym, ap, ap₂, ◌∙◌, subst, append_assoc, append-nil, inl, inr, Option, Some, None, is_some}
+use Rattle.std.proofs.Common.{◌≡◌, ◌≢◌, ℕ, not, Bool, true, false, List, [], ◌∷◌, ◌++◌, map, length, codes, refl, sym, ap, ap₂, ◌∙◌, subst, append_assoc, append-nil, inl, inr, Option, Some, None, is_some}
 use Rattle.std.specs.List.{flat_map, AllByRecursion as Each}
 use Rattle.std.specs.Option.{option_and_then, option_map_or}
 use Rattle.std.proofs.lemmas.List.{length-map}
 use Rattle.std.proofs.lemmas.List.Folds.{flat_map-map}
 use Rattle.markup_nodes.specs.declared.words.Attr.{Attr}
 use Rattle.markup_nodes.specs.declared.tree.Elem.{Elem}
-use Rattle.markup_nodes.specs.Node.{Node, Element}
+use Rattle.markup_nodes.specs.Node.{Node}
 use Rattle.doc_model.specs.declared.block.Block.{Block, roll-Block}
 use Rattle.doc_model.specs.declared.block.Block.TheOpen.{Block-F, Section-F}
 use Rattle.doc_model.specs.declared.block.Block.TheFolds.{fold-roll-Block, fold-roll-Section}
@@ -22,12 +22,12 @@ use Rattle.draft_numbers.proofs.BlockLemmas.{of_block, par_block, par_reads, sec
 use Rattle.load_model.specs.declared.names.Key.TheVariants as key
 use Rattle.load_model.specs.declared.names.Tag.TheVariants as tag
 use Rattle.load_model.specs.declared.element.Attribute.{Attribute}
-use Rattle.load_model.specs.Blocks.{Lists, ReadBlocks, ReadSource, as_block, kept_section, left_by, or_empty, section_rules, without_declarations}
+use Rattle.load_model.specs.Blocks.{Lists, ReadBlocks, ReadSource, kept_section, left_by, section_rules, without_declarations}
 use Rattle.load_model.specs.Left.{Left, all_of, both, nothing}
 use Rattle.load_model.specs.Styles.{Names, style_reference}
 use Rattle.load_model.specs.Values as value
 use Rattle.load_model.specs.Values.{Rule, rule, stated_or}
-use Rattle.written_model.specs.Blocks.{block_element, note_element, paragraph, source_element}
+use Rattle.written_model.specs.Blocks.{block_element, note_element, source_element}
 use Rattle.written_model.specs.Elements.{element, unless_empty, where_true}
 use Rattle.back_names.specs.Named.{named_attribute}
 use Rattle.back_fields.specs.Fit.{IsName, IsNameOrNone}
@@ -39,7 +39,7 @@ use Rattle.back_spans.proofs.Runs.{each_both, style_name_key}
 use Rattle.back_values.proofs.Texts.{name_back, none_back}
 use Rattle.back_paragraphs.specs.Paragraphs.{IsNoneOrGood, IsReadablePar, outside, parts_of, whole_blocks}
 use Rattle.back_paragraphs.proofs.Lists.{par_read}
-use Rattle.back_paragraphs.proofs.Parts.{IsBlocks, gives_at, part_first, style_left, style_stated}
+use Rattle.back_paragraphs.proofs.Parts.{IsBlocks, gives_at, part_first, style_stated}
 use Rattle.back_blocks.specs.Blocks.{IsReadableSection, IsSource}
 use Rattle.back_blocks.proofs.Joins.{IsParts, all_read, at_true, left_true, named_true, parts_first, past_true, past_unless}
 use Rattle.back_blocks.proofs.Keys as named
@@ -94,7 +94,7 @@ module _ (source : SectionSource) (is : IsSource (Some source)) where
     is = gives_at names (codes "text:section-source") (unless_empty (codes "xlink:href") source.href ++ unless_empty (codes "text:section-name") source.section) [] tag.SectionSource source_attributes named.source_tag source_named;
     read_is =
         ap₂ (λ (href section : List ℕ). made href section (left_by source_rules source_attributes)) href_is section_is
-            ∙ ap (made source.href source.section) source_left;
+        ∙ ap (made source.href source.section) source_left;
   } where
     made : List ℕ → List ℕ → Left → ReadBlocks
     made href section left = all_read [] (record { source = record { href = href; section = section }; left = both left nothing } ∷ []) []

@@ -1,10 +1,10 @@
 -- A text with its declarations is read back.
-use Rattle.std.proofs.Common.{◌≡◌, ℕ, ◌-◌, ◌&&◌, Bool, true, false, cond, List, [], ◌∷◌, ◌++◌, map, filter, length, codes, refl, sym, ap, ap₂, ◌∙◌, append_assoc, append-nil, arith, Option, Some, is_some}
-use Rattle.std.specs.List.{flat_map, AllByRecursion as Each}
+use Rattle.std.proofs.Common.{◌≡◌, ℕ, ◌-◌, ◌&&◌, Bool, true, false, cond, List, [], ◌∷◌, ◌++◌, map, filter, length, codes, refl, ap, ap₂, ◌∙◌, append_assoc, append-nil, arith, Option, is_some}
+use Rattle.std.specs.List.{AllByRecursion as Each}
 use Rattle.std.specs.Option.{option_map_or}
 use Rattle.markup_nodes.specs.declared.words.Attr.{Attr}
 use Rattle.markup_nodes.specs.declared.tree.Elem.{Elem}
-use Rattle.markup_nodes.specs.Node.{Node, Element}
+use Rattle.markup_nodes.specs.Node.{Node}
 use Rattle.markup_nodes.specs.Nodes.{elems}
 use Rattle.doc_model.specs.declared.block.Block.{Block}
 use Rattle.doc_model.specs.declared.document.Document.{Document}

@@ -23,7 +23,7 @@ pub fn blocks_are_read_back()
 /// A text is read as its blocks with the names that it declares, and nothing is left out.
 pub fn text_is_read_back()
     ensures { (names : Names) (doc : Document) → Each (IsReadablePar names false note_element) (body_paragraphs doc) → Each (IsReadableSection names) (sections doc) → Each IsName doc.variables → Each IsName doc.sequences
-    → parts_of names (outside false) (variable_declarations doc.variables ++ sequence_declarations doc.sequences ++ map block_element doc.body) ≡ record { blocks = doc.body; sources = []; declarations = declared_names false doc.variables ++ declared_names true doc.sequences; left = nothing } }
+        → parts_of names (outside false) (variable_declarations doc.variables ++ sequence_declarations doc.sequences ++ map block_element doc.body) ≡ record { blocks = doc.body; sources = []; declarations = declared_names false doc.variables ++ declared_names true doc.sequences; left = nothing } }
 {}
 
 /// The numbers of paragraphs aren't written: a document is written as the one that has none.
