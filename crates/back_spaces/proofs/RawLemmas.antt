@@ -18,12 +18,12 @@ use Rattle.spelling_model.specs.Spelling.{Piece, As, Spaces, Placed, behind_spac
 use Rattle.back_spaces.specs.Raws.{raw_of, raws_of}
 
 -- an item is what it opens to
-whole : (item : Item) (what : What-F What Item Note Par) → what_of item ≡ what → item_in (out-Item item).spans what ≡ item
+pub whole : (item : Item) (what : What-F What Item Note Par) → what_of item ≡ what → item_in (out-Item item).spans what ≡ item
 whole item what e =
     ap (λ (one : What). roll-Item (record { spans = (out-Item item).spans; what = one })) (ap roll-What (sym e) ∙ roll-out-What (out-Item item).what) ∙ roll-out-Item item
 
 -- white space from U+20 on is U+20
-white : (c : ℕ) → 0x20 ≤ c → is_white c ≡ (c == 0x20)
+pub white : (c : ℕ) → 0x20 ≤ c → is_white c ≡ (c == 0x20)
 white c from =
     let tab : (c == 0x9) ≡ false = grind (arith, from) in
     let feed : (c == 0xa) ≡ false = grind (arith, from) in

@@ -1,0 +1,4 @@
+pub mod Opened
+pub mod Keys
+pub mod Attributes
+pub mod Fields

@@ -1,0 +1,9 @@
+pub mod Parts
+pub mod Plain
+pub mod Rows
+pub mod PlainLists
+pub mod SheetRows
+pub mod PlainContent
+pub mod PlainSheets
+pub mod PlainBlocks
+pub mod Root

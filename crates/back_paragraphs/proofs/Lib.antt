@@ -1,0 +1,5 @@
+pub mod Keys
+pub mod Parts
+pub mod Bare
+pub mod Lists
+pub mod Notes
