@@ -5,7 +5,7 @@ use Rattle.doc_model.specs.declared.block.Block.TheOpen.{Section-F}
 use Rattle.doc_model.specs.declared.block.Block.TheFolds.{fold-roll-Block, fold-roll-Section}
 use Rattle.doc_model.specs.declared.block.Section.{Section}
 use Rattle.doc_model.specs.declared.paragraph.Par.{Par}
-use Rattle.draft_numbers.proofs.BlockLemmas.{par_block, section_block}
+use Rattle.block_facts.proofs.Blocks.{par_block, section_block}
 use Rattle.written_model.specs.Blocks.{block_element, note_element, paragraph, source_element}
 use Rattle.written_model.specs.Elements.{element, unless_empty, where_true}
 

@@ -18,7 +18,7 @@ use Rattle.doc_model.specs.declared.paragraph.Par.{Par}
 use Rattle.doc_model.specs.declared.style.Family.TheVariants as family
 use Rattle.doc_model.specs.Parts.{SectionHead, block_sections}
 use Rattle.doc_model.specs.Reading.{block_paragraphs}
-use Rattle.draft_numbers.proofs.BlockLemmas.{of_block, par_block, par_reads, section_block, section_reads}
+use Rattle.block_facts.proofs.Blocks.{of_block, par_block, par_reads, section_block, section_reads}
 use Rattle.load_model.specs.declared.names.Key.TheVariants as key
 use Rattle.load_model.specs.declared.names.Tag.TheVariants as tag
 use Rattle.load_model.specs.declared.element.Attribute.{Attribute}

@@ -17,7 +17,7 @@ use Rattle.doc_model.specs.declared.paragraph.What.TheOpen.{What-F, Par-F}
 use Rattle.doc_model.specs.declared.paragraph.What.TheViews.{out-roll-What, out-roll-Note, out-roll-Par, roll-out-Item, roll-out-What}
 use Rattle.doc_model.specs.Alike.{in_block, in_note, in_paragraph, unnumbered}
 use Rattle.doc_model.specs.Parts.{is_mark, what_of}
-use Rattle.draft_numbers.proofs.BlockLemmas.{of_block, par_block, par_changes, section_block, section_changes}
+use Rattle.block_facts.proofs.Blocks.{of_block, par_block, par_changes, section_block, section_changes}
 use Rattle.load_model.specs.Content.{item_in}
 use Rattle.spelling_model.specs.Spelling.{Piece, As, Spaces, Placed, behind_space, is_space, is_there, is_word, pieces_of, placed, stands_for_itself, without_marks}
 use Rattle.written_model.specs.Blocks.{bare_paragraph, block_element, listed_paragraph, note_element, paragraph, source_element}

@@ -148,14 +148,14 @@ rolled_read place name attrs nodes plain =
     record {
       named =
           resolved_of place name attrs inner bound
-              ∙ ap (λ (bindings : List Binding). read_of place name attrs (map (read_node bindings) inner) bindings) within
-              ∙ ap (λ (others : List (Node Read)). read_of place name attrs others bound) held.0
-              ∙ sym (named_of place name attrs inner);
+          ∙ ap (λ (bindings : List Binding). read_of place name attrs (map (read_node bindings) inner) bindings) within
+          ∙ ap (λ (others : List (Node Read)). read_of place name attrs others bound) held.0
+          ∙ sym (named_of place name attrs inner);
       good =
           bad_of place name attrs inner bound
-              ∙ ap (λ (bindings : List Binding). own_places place name attrs bindings ++ bad_in bindings inner) within
-              ∙ ap (λ (bad : Bool). cond bad (place ∷ []) [] ++ bad_in bound inner) (not-true (has_bad_names name attrs bound) own.1)
-              ∙ held.1;
+          ∙ ap (λ (bindings : List Binding). own_places place name attrs bindings ++ bad_in bindings inner) within
+          ∙ ap (λ (bad : Bool). cond bad (place ∷ []) [] ++ bad_in bound inner) (not-true (has_bad_names name attrs bound) own.1)
+          ∙ held.1;
     }
 
 elem_step : (x : Elem-F Elem) (y : Elem-F ReadElem) → map-Elem ReadElem Elem bare y ≡ x → Reads (roll-Elem x)

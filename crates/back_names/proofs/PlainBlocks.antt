@@ -13,7 +13,7 @@ use Rattle.doc_model.specs.declared.paragraph.Par.{Par, out-Par}
 use Rattle.doc_model.specs.declared.paragraph.ListPos.{ListPos}
 use Rattle.doc_model.specs.declared.paragraph.Note.{Note, out-Note}
 use Rattle.doc_model.specs.declared.document.Document.{Document}
-use Rattle.draft_numbers.proofs.BlockLemmas.{par_block, section_block, of_block}
+use Rattle.block_facts.proofs.Blocks.{par_block, section_block, of_block}
 use Rattle.written_model.specs.Elements.{attribute, unless_empty, where_true, element, empty_element}
 use Rattle.written_model.specs.Values.{truth, class_text}
 use Rattle.written_model.specs.Content.{content}

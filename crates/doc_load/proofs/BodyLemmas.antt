@@ -5,7 +5,7 @@ use Rattle.doc_model.specs.Alike.{in_block, in_paragraph}
 use Rattle.doc_model.specs.declared.block.Block.{Block}
 use Rattle.doc_model.specs.declared.paragraph.What.TheViews.{out-roll-Par}
 use Rattle.load_model.specs.Blocks.{as_block, empty_paragraph, or_empty}
-use Rattle.draft_numbers.proofs.BlockLemmas.{par_changes}
+use Rattle.block_facts.proofs.Blocks.{par_changes}
 use Rattle.read_blocks.specs.Kept.{at_ten, kept_block}
 use Rattle.read_blocks.proofs.LawLemmas.{kept_changed}
 

@@ -17,7 +17,7 @@ use Rattle.doc_model.specs.declared.paragraph.Note.{Note, out-Note, roll-Note}
 use Rattle.doc_model.specs.Reading.{block_paragraphs, with_notes, note_of, number_of}
 use Rattle.load_model.specs.Content.{Raw, Blank, Read, item_in, is_white, raw_character, is_nearest_solid, is_solid, items_behind}
 use Rattle.load_model.specs.Blocks.{as_block, empty_paragraph, or_empty, paragraphs_of, first_changed, with_place}
-use Rattle.draft_numbers.proofs.BlockLemmas.{par_block, section_block, of_block, par_reads, section_reads}
+use Rattle.block_facts.proofs.Blocks.{par_block, section_block, of_block, par_reads, section_reads}
 use Rattle.tree_places.proofs.Within.{Within, within_more, within_self, within_append, within_is, within_all}
 
 abbrev pub Layer : Type 0
