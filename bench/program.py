@@ -6,7 +6,7 @@ import time
 
 TOP = os.path.dirname(os.path.dirname(os.path.abspath(__file__)))
 QUILL = os.path.join(TOP, "crates", "quill", "out", "quill")
-SPELLING = os.path.join(TOP, "crates", "doc_model", "src", "spelling.rt")
+SPELLING = os.path.join(TOP, "crates", "spelling_model", "src", "pieces.rt")
 RUNS = 5
 WORDS = "the quick brown fox jumps over a lazy dog while seven writers watch from old oak trees".split()
 
