@@ -1,19 +1,8 @@
 //! The words of the command line.
-ghost use Rattle.std.specs.Prelude.{◌≡◌, [], ◌∷◌, None, Some, MatchOption, string_bytes};
-ghost use Rattle.quill_top.specs.Words as model;
-ghost use Rattle.quill_top.specs.Words.{texts_of, can_name};
-ghost use Rattle.quill_top.specs.Tasks.{task_of};
+ghost use Rattle.std.specs.Prelude.{◌≡◌, IsTrue, None, Some, MatchOption};
+ghost use Rattle.quill_top.specs.Words.{texts_of, can_name, accepted};
 
-/// What words ask for.
-#[derive(Clone, Copy, Debug)]
-pub(crate) enum Task<'a> {
-    /// The text of a script over a document.
-    Run(Names<'a>),
-    /// The canonical bytes of the file of this name.
-    Save(&'a str),
-}
-
-/// The files of a run.
+/// The files that are named.
 #[derive(Clone, Copy, Debug)]
 pub(crate) struct Names<'a> {
     /// The document's.
@@ -22,23 +11,15 @@ pub(crate) struct Names<'a> {
     pub(crate) script: &'a str,
 }
 
-/// What these words ask for.
-pub(crate) fn accepted(words: &[String]) -> Option<Task<'_>>
-    ensures { MatchOption result (model.accepted (texts_of words.now) ≡ None) (λ task. model.accepted (texts_of words.now) ≡ Some (task_of task)) }
+/// FILE and SCRIPT of the words `run FILE SCRIPT`.
+pub(crate) fn accepted(words: &[String]) -> Option<Names<'_>>
+    ensures { MatchOption result (accepted (texts_of words.now) ≡ None)
+        (λ names. accepted (texts_of words.now)
+        ≡ Some (record { file = names.file.now; script = names.script.now })) }
 {
-    match words {
-        [mode, file] => save_task(mode, file),
-        [mode, file, script] => run_task(mode, file, script),
-        _ => None,
-    }
-}
-
-// What the words `run FILE SCRIPT` ask for.
-fn run_task<'a>(mode: &'a String, file: &'a String, script: &'a String) -> Option<Task<'a>>
-    ensures { MatchOption result
-        (model.accepted (string_bytes mode.now ∷ string_bytes file.now ∷ string_bytes script.now ∷ []) ≡ None)
-        (λ task. model.accepted (string_bytes mode.now ∷ string_bytes file.now ∷ string_bytes script.now ∷ []) ≡ Some (task_of task)) }
-{
+    let [mode, file, script] = words else {
+        return None;
+    };
     if mode.as_str() != "run" {
         return None;
     }
@@ -48,25 +29,10 @@ fn run_task<'a>(mode: &'a String, file: &'a String, script: &'a String) -> Optio
     if !can_name(script.as_str()) {
         return None;
     }
-    Some(Task::Run(Names {
+    Some(Names {
         file: file.as_str(),
         script: script.as_str(),
-    }))
-}
-
-// What the words `save FILE` ask for.
-fn save_task<'a>(mode: &'a String, file: &'a String) -> Option<Task<'a>>
-    ensures { MatchOption result
-        (model.accepted (string_bytes mode.now ∷ string_bytes file.now ∷ []) ≡ None)
-        (λ task. model.accepted (string_bytes mode.now ∷ string_bytes file.now ∷ []) ≡ Some (task_of task)) }
-{
-    if mode.as_str() != "save" {
-        return None;
-    }
-    if !can_name(file.as_str()) {
-        return None;
-    }
-    Some(Task::Save(file.as_str()))
+    })
 }
 
 // Whether a word can name a file.
