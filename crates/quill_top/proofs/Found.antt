@@ -7,9 +7,9 @@ use Rattle.spelling_model.specs.Spelling.{canonical}
 use Rattle.desk_model.specs.Script.{IsScript, IsFirstBadLine}
 use Rattle.desk_model.specs.Runs.{script_text}
 use Rattle.quill_io.specs.Shelf.{Files}
-use Rattle.quill_top.specs.Words.{Names, accepted}
+use Rattle.quill_top.specs.Words.{Names, Task, accepted}
 use Rattle.quill_top.specs.Stop.{Stop, not_plain, usage, bad_line}
-use Rattle.quill_top.specs.Outcome.{Outcome, IsFetched, IsLoaded, IsRead, IsRun, IsOutcome, IsOutcomeUnder}
+use Rattle.quill_top.specs.Outcome.{Outcome, IsFetched, IsLoaded, IsRead, IsRun, IsSave, IsSaved, IsOutcome, IsOutcomeOf}
 use Rattle.quill_top.specs.Answer.{Only}
 use Rattle.quill_top.proofs.Lines.{no_first_bad_line, one_first_bad_line}
 
@@ -75,14 +75,14 @@ bad at name bytes number fetched first = (inr (bytes, number, fetched.0, first, 
 
 -- a document that is loaded and a script that is read make the text
 pub run : (at : Files) (names : Names) (doc : Document) (commands : List Numbered) → Only (IsLoaded at names.file) (Ok doc) → Only (IsRead at names.script) (Ok commands)
-    → Only (IsRun at names) (Ok (script_text doc commands))
+    → Only (IsRun at names) (Ok (record { text = script_text doc commands; report = None }))
 run at names doc commands loaded read = ((doc, commands, loaded.0, read.0, refl), only) where
-  only : (other : Outcome) → IsRun at names other → other ≡ Ok (script_text doc commands)
-  only (Ok text) found =
+  only : (other : Outcome) → IsRun at names other → other ≡ Ok (record { text = script_text doc commands; report = None })
+  only (Ok done) found =
       let d = loaded.1 (Ok found.0) found.2 in
       let c = read.1 (Ok found.1) found.3 in
       let e : script_text found.0 found.1 ≡ script_text doc commands = cc in
-      ap Ok (found.4 ∙ e)
+      ap Ok (found.4 ∙ ap (λ (text : List ℕ). record { text = text; report = None }) e)
   only (Err stop) (inl unloaded) = let e = loaded.1 (Err stop) unloaded in cc
   only (Err stop) (inr unread) = let e = read.1 (Err stop) unread.2 in cc
 
@@ -103,10 +103,33 @@ run_unread at names doc stop loaded read = (inr (doc, loaded.0, read.0), only) w
   only (Err other) (inl unloaded) = let e = loaded.1 (Err other) unloaded in cc
   only (Err other) (inr unread) = let e = read.1 (Err other) unread.2 in cc
 
--- the outcome of accepted words is that of the files that they name
-pub outcome : (at : Files) (words : List (List ℕ)) (names : Names) (result : Outcome) → accepted words ≡ Some names → Only (IsRun at names) result → Only (IsOutcome at words) result
-outcome at words names result e found = subst (λ (named : Option Names). Only (IsOutcomeUnder at named) result) (sym e) found
+-- what bytes are saved as, where they are those of FILE
+pub save : (at : Files) (file bytes : List ℕ) (result : Outcome) → Only (IsFetched at file) (Ok bytes) → Only (IsSaved bytes) result → Only (IsSave at file) result
+save at file bytes result fetched saved = (is result saved.0, only) where
+  is : (result : Outcome) → IsSaved bytes result → IsSave at file result
+  is (Ok done) found = (bytes, fetched.0, found)
+  is (Err stop) found = inr (bytes, fetched.0, found)
+
+  same : (other : List ℕ) → IsFetched at file (Ok other) → other ≡ bytes
+  same other found = let e = fetched.1 (Ok other) found in cc
+
+  only : (other : Outcome) → IsSave at file other → other ≡ result
+  only (Ok done) found = saved.1 (Ok done) (subst (λ (b : List ℕ). IsSaved b (Ok done)) (same found.0 found.1) found.2)
+  only (Err stop) (inl unread) = let e = fetched.1 (Err stop) unread in cc
+  only (Err stop) (inr found) = saved.1 (Err stop) (subst (λ (b : List ℕ). IsSaved b (Err stop)) (same found.0 found.1) found.2)
+
+-- a file that isn't fetched isn't saved
+pub unsaved : (at : Files) (file : List ℕ) (stop : Stop) → Only (IsFetched at file) (Err stop) → Only (IsSave at file) (Err stop)
+unsaved at file stop fetched = (inl fetched.0, only) where
+  only : (other : Outcome) → IsSave at file other → other ≡ Err stop
+  only (Ok done) found = let e = fetched.1 (Ok found.0) found.1 in cc
+  only (Err other) (inl unread) = let e = fetched.1 (Err other) unread in cc
+  only (Err other) (inr found) = let e = fetched.1 (Ok found.0) found.1 in cc
+
+-- the outcome of accepted words is that of what they ask for
+pub outcome : (at : Files) (words : List (List ℕ)) (task : Task) (result : Outcome) → accepted words ≡ Some task → Only (IsOutcomeOf at (Some task)) result → Only (IsOutcome at words) result
+outcome at words task result e found = subst (λ (asked : Option Task). Only (IsOutcomeOf at asked) result) (sym e) found
 
 -- words that aren't accepted come to the usage
 pub outcome_usage : (at : Files) (words : List (List ℕ)) → accepted words ≡ None → Only (IsOutcome at words) (Err usage)
-outcome_usage at words e = subst (λ (named : Option Names). Only (IsOutcomeUnder at named) (Err usage)) (sym e) (refl, λ other is. is)
+outcome_usage at words e = subst (λ (asked : Option Task). Only (IsOutcomeOf at asked) (Err usage)) (sym e) (refl, λ other is. is)

@@ -1,14 +1,23 @@
 -- What the status and the line of a stop that was told say.
-use Rattle.std.proofs.Common.{◌≡◌, ◌≢◌, ℕ, ◌⊎◌, List, Option, Some, None, Err, refl, sym, ap, ◌∙◌, inl, inr, arith}
+use Rattle.std.proofs.Common.{◌≡◌, ◌≢◌, ℕ, ◌⊎◌, List, Option, Some, None, Err, IsSomeAnd, refl, sym, ap, ◌∙◌, inl, inr, arith}
 use Rattle.quill_io.specs.Shelf.{Files}
-use Rattle.quill_top.specs.Words.{accepted}
+use Rattle.quill_top.specs.Words.{Task, accepted}
 use Rattle.quill_top.specs.Stop.{Stop, no_memory}
 use Rattle.quill_top.specs.Outcome.{Outcome, IsOutcome}
-use Rattle.quill_top.specs.Answer.{Only, IsFault, HasStatus, IsStop, Tells}
+use Rattle.quill_top.specs.Answer.{Only, IsFault, IsFileRefusal, HasStatus, IsStop, Tells}
 use Rattle.quill_top.specs.Ending.{IsTold}
 
 status_is : (stop other : Stop) → stop ≡ other → stop.status ≡ other.status
 status_is stop other e = ap (λ (s : Stop). s.status) e
+
+-- a stop for what files are has another status than 2
+no_usage : (stop : Stop) (asked : Option Task) → IsSomeAnd asked (λ (task : Task). IsFileRefusal task stop) → stop.status ≡ 2 → ⊥
+no_usage stop None none two = none
+no_usage stop (Some task) (inl plain) two = omega (arith, two, status_is stop _ plain)
+no_usage stop (Some task) (inr (inl refused)) two = omega (arith, two, status_is stop _ refused.1)
+no_usage stop (Some task) (inr (inr (inl bad))) two = omega (arith, two, status_is stop _ bad.1)
+no_usage stop (Some task) (inr (inr (inr (name, named, inl absent)))) two = omega (arith, two, status_is stop _ absent)
+no_usage stop (Some task) (inr (inr (inr (name, named, inr long)))) two = omega (arith, two, status_is stop _ long)
 
 -- a stop with status 2 is for words that aren't accepted
 stop_is_usage : (files : Option Files) (words : List (List ℕ)) (stop : Stop) → IsStop files words stop → stop.status ≡ 2 → accepted words ≡ None
@@ -16,10 +25,7 @@ stop_is_usage files words stop (inl (inl fault)) two = absurd (omega (arith, two
 stop_is_usage files words stop (inl (inr (inl output))) two = absurd (omega (arith, two, status_is stop _ output))
 stop_is_usage files words stop (inl (inr (inr memory))) two = absurd (omega (arith, two, status_is stop _ memory))
 stop_is_usage files words stop (inr (inl usage, _)) two = usage.0
-stop_is_usage files words stop (inr (inr (inl plain), _)) two = absurd (omega (arith, two, status_is stop _ plain))
-stop_is_usage files words stop (inr (inr (inr (inl bad)), _)) two = absurd (omega (arith, two, status_is stop _ bad.1))
-stop_is_usage files words stop (inr (inr (inr (inr (name, named, inl absent))), _)) two = absurd (omega (arith, two, status_is stop _ absent))
-stop_is_usage files words stop (inr (inr (inr (inr (name, named, inr long))), _)) two = absurd (omega (arith, two, status_is stop _ long))
+stop_is_usage files words stop (inr (inr why, _)) two = absurd (no_usage stop (accepted words) why two)
 
 -- status 2 is answered for words that aren't accepted
 pub told_usage : (files : Option Files) (words : List (List ℕ)) (stop : Stop) (status : ℕ) (old new : Option (List ℕ)) (before now : ℕ)

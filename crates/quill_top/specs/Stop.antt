@@ -1,5 +1,7 @@
 -- Why there is no text, with the status and the line that say so.
 use Rattle.std.specs.Prelude.{ℕ, List, ◌++◌, codes, decimal}
+use Rattle.doc_load.specs.declared.offence.Offence.{Offence}
+use Rattle.file_save.specs.Lines.{offence_line}
 
 -- a status, and a line with its line feed
 pub record Stop : Type 0 where
@@ -10,9 +12,13 @@ pub record Stop : Type 0 where
 abbrev pub not_plain : Stop
 not_plain = record { status = 1; line = codes "refused: plain at 0\n" }
 
+-- FILE has this offence
+abbrev pub refused : Offence → Stop
+refused offence = record { status = 1; line = offence_line offence }
+
 -- the words aren't accepted
 abbrev pub usage : Stop
-usage = record { status = 2; line = codes "usage: quill run FILE SCRIPT\n" }
+usage = record { status = 2; line = codes "usage: quill run FILE SCRIPT / save FILE\n" }
 
 -- the script's line of this number is the first that isn't a command
 abbrev pub bad_line : ℕ → Stop

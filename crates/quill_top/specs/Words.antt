@@ -17,8 +17,14 @@ pub record Names : Type 0 where
   pub file : List ℕ
   pub script : List ℕ
 
--- FILE and SCRIPT of the words `run FILE SCRIPT`; no other words are accepted
-abbrev pub accepted : List (List ℕ) → Option Names
+-- what words ask for: the script of a run over a file, or the canonical bytes of a file
+pub data Task : Type 0 where
+  Run : (names : Names) → Task
+  Save : (file : List ℕ) → Task
+
+-- `run FILE SCRIPT` and `save FILE`; no other words are accepted
+abbrev pub accepted : List (List ℕ) → Option Task
 accepted (mode ∷ file ∷ script ∷ []) =
-    if bytes_eq mode (codes "run") && (can_name file && can_name script) then Some (record { file = file; script = script }) else None
+    if bytes_eq mode (codes "run") && (can_name file && can_name script) then Some (Run (record { file = file; script = script })) else None
+accepted (mode ∷ file ∷ []) = if bytes_eq mode (codes "save") && can_name file then Some (Save file) else None
 accepted _ = None

@@ -1,10 +1,13 @@
 //! Why a run has no text that was put, and how that is told.
 ghost use Rattle.std.specs.Prelude.{◌≡◌, ℕ, ◌≤◌, List, ◌++◌, codes, string_bytes, IfOk};
+ghost use Rattle.std.specs.Option.{option_map};
 ghost use Rattle.quill_top.specs.Stop.{bad_line};
-ghost use Rattle.quill_top.specs.Answer.{Tells};
-ghost use Rattle.quill_top.specs.Ending.{stop_of, IsTold};
+ghost use Rattle.quill_top.specs.Answer.{Reports, Tells};
+ghost use Rattle.quill_top.specs.Ending.{fault_stop, stop_of, IsTold};
 
 use crate::lone::Status;
+use doc_load::{LoadFault, Offence};
+use file_save::offence_line;
 use quill_io::Sink;
 use std::alloc::{AllocError, Global};
 
@@ -15,6 +18,8 @@ pub(crate) enum Ending<'a> {
     Usage,
     /// FILE isn't what a plain document is written as.
     NotPlain,
+    /// FILE has this offence.
+    Refused(Offence),
     /// The script's line of this number, from 1, is the first that isn't a command.
     BadLine(u32),
     /// There is no file of this name.
@@ -41,7 +46,8 @@ pub(crate) fn tell<D: Sink>(alloc: Global, ending: Ending, diag: &mut D) -> Stat
 {
     match ending {
         Ending::NotPlain => say(diag, "refused: plain at 0\n", 1),
-        Ending::Usage => say(diag, "usage: quill run FILE SCRIPT\n", 2),
+        Ending::Refused(offence) => say_made(diag, offence_line(alloc, offence), 1),
+        Ending::Usage => say(diag, "usage: quill run FILE SCRIPT / save FILE\n", 2),
         Ending::BadLine(number) => say_made(diag, numbered_line(alloc, number), 3),
         Ending::Absent(name) => say_made(diag, named_line(alloc, "absent: ", name), 4),
         Ending::ShelfFault(name) => say_made(diag, named_line(alloc, "shelf fault: ", name), 5),
@@ -90,4 +96,28 @@ fn say<D: Sink>(diag: &mut D, line: &str, status: u8) -> Status
 {
     let _ = diag.put(line.as_bytes());
     Status(status)
+}
+
+/// Puts the line of a report, if there is one. That it fails changes nothing.
+pub(crate) fn report<D: Sink>(diag: &mut D, line: &Option<String>)
+    ensures told { Reports (option_map string_bytes line.now)
+        (D.held diag.old) (D.held diag.new) (D.faults diag.old) (D.faults diag.new) }
+    ensures never_falls { D.faults diag.old ≤ D.faults diag.new }
+{
+    match line {
+        Some(line) => {
+            let _ = diag.put(line.as_bytes());
+        }
+        None => {}
+    }
+}
+
+/// Why a run ends whose file isn't loaded.
+pub(crate) fn load_ending<'a>(fault: LoadFault) -> Ending<'a>
+    ensures { stop_of result ≡ fault_stop fault }
+{
+    match fault {
+        LoadFault::Offence(offence) => Ending::Refused(offence),
+        LoadFault::NoMemory => Ending::NoMemory,
+    }
 }

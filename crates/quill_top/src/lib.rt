@@ -4,8 +4,8 @@
 
 mod ending;
 mod lone;
-mod run;
 mod steps;
+mod tasks;
 mod words;
 
 pub use lone::{Status, quill_lone};

@@ -1,4 +1,4 @@
-//! The steps of a run that read a file.
+//! The steps that read a file.
 ghost use Rattle.std.specs.Prelude.{◌≡◌, ℕ, ◌⊎◌, ◌≤◌, Ok, Err, length, IfOk, IfErr};
 ghost use Rattle.std.specs.List.{AllByRecursion as Each};
 ghost use Rattle.desk_model.specs.declared.script.Numbered.{Numbered};

@@ -1,8 +1,19 @@
 //! The words of the command line.
-ghost use Rattle.std.specs.Prelude.{◌≡◌, IsTrue, None, Some, MatchOption};
-ghost use Rattle.quill_top.specs.Words.{texts_of, can_name, accepted};
+ghost use Rattle.std.specs.Prelude.{◌≡◌, [], ◌∷◌, None, Some, MatchOption, string_bytes};
+ghost use Rattle.quill_top.specs.Words as model;
+ghost use Rattle.quill_top.specs.Words.{texts_of, can_name};
+ghost use Rattle.quill_top.specs.Tasks.{task_of};
 
-/// The files that are named.
+/// What words ask for.
+#[derive(Clone, Copy, Debug)]
+pub(crate) enum Task<'a> {
+    /// The text of a script over a document.
+    Run(Names<'a>),
+    /// The canonical bytes of the file of this name.
+    Save(&'a str),
+}
+
+/// The files of a run.
 #[derive(Clone, Copy, Debug)]
 pub(crate) struct Names<'a> {
     /// The document's.
@@ -11,15 +22,23 @@ pub(crate) struct Names<'a> {
     pub(crate) script: &'a str,
 }
 
-/// FILE and SCRIPT of the words `run FILE SCRIPT`.
-pub(crate) fn accepted(words: &[String]) -> Option<Names<'_>>
-    ensures { MatchOption result (accepted (texts_of words.now) ≡ None)
-        (λ names. accepted (texts_of words.now)
-        ≡ Some (record { file = names.file.now; script = names.script.now })) }
+/// What these words ask for.
+pub(crate) fn accepted(words: &[String]) -> Option<Task<'_>>
+    ensures { MatchOption result (model.accepted (texts_of words.now) ≡ None) (λ task. model.accepted (texts_of words.now) ≡ Some (task_of task)) }
 {
-    let [mode, file, script] = words else {
-        return None;
-    };
+    match words {
+        [mode, file] => save_task(mode, file),
+        [mode, file, script] => run_task(mode, file, script),
+        _ => None,
+    }
+}
+
+// What the words `run FILE SCRIPT` ask for.
+fn run_task<'a>(mode: &'a String, file: &'a String, script: &'a String) -> Option<Task<'a>>
+    ensures { MatchOption result
+        (model.accepted (string_bytes mode.now ∷ string_bytes file.now ∷ string_bytes script.now ∷ []) ≡ None)
+        (λ task. model.accepted (string_bytes mode.now ∷ string_bytes file.now ∷ string_bytes script.now ∷ []) ≡ Some (task_of task)) }
+{
     if mode.as_str() != "run" {
         return None;
     }
@@ -29,10 +48,25 @@ pub(crate) fn accepted(words: &[String]) -> Option<Names<'_>>
     if !can_name(script.as_str()) {
         return None;
     }
-    Some(Names {
+    Some(Task::Run(Names {
         file: file.as_str(),
         script: script.as_str(),
-    })
+    }))
+}
+
+// What the words `save FILE` ask for.
+fn save_task<'a>(mode: &'a String, file: &'a String) -> Option<Task<'a>>
+    ensures { MatchOption result
+        (model.accepted (string_bytes mode.now ∷ string_bytes file.now ∷ []) ≡ None)
+        (λ task. model.accepted (string_bytes mode.now ∷ string_bytes file.now ∷ []) ≡ Some (task_of task)) }
+{
+    if mode.as_str() != "save" {
+        return None;
+    }
+    if !can_name(file.as_str()) {
+        return None;
+    }
+    Some(Task::Save(file.as_str()))
 }
 
 // Whether a word can name a file.

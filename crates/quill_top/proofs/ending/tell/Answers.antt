@@ -15,7 +15,7 @@ pub returns-in-NoMemory-clause-told : goal.returns-in-NoMemory-clause-told
 returns-in-NoMemory-clause-told g c = inr (c.say-in-NoMemory.ensures.status, c.say-in-NoMemory.ensures.told)
 
 pub returns-in-BadLine-clause-told : goal.returns-in-BadLine-clause-told
-returns-in-BadLine-clause-told g c = rw c.in-BadLine.is (c.say_made.ensures.told _ c.numbered_line.ensures)
+returns-in-BadLine-clause-told g c = rw c.in-BadLine.is (c.say_made-in-BadLine.ensures.told _ c.numbered_line.ensures)
 
 pub returns-in-Absent-clause-told : goal.returns-in-Absent-clause-told
 returns-in-Absent-clause-told g c = rw c.in-Absent.is (c.say_made-in-Absent.ensures.told _ c.named_line.ensures)

@@ -4,6 +4,7 @@ use Rattle.std.specs.Io.KnownBytes.{Appends}
 use Rattle.quill_top.specs.Words.{texts_of}
 use Rattle.quill_top.specs.Stop.{output_fault}
 use Rattle.quill_top.specs.Ending.{stop_of}
+use Rattle.quill_top.specs.Made.{done_of}
 use Rattle.quill_top.proofs.Told.{told_usage, told_six, told_known, told_line}
 use Rattle.quill_top.proofs.lone.quill_lone.Goals as goal
 
@@ -33,11 +34,11 @@ pub returns-in-Ok-put-clause-usage : goal.returns-in-Ok-put-clause-usage
 returns-in-Ok-put-clause-usage g c = (λ two. absurd (omega (arith, two)), λ none. absurd (c.in-Ok.ensures.usage none))
 
 pub returns-in-Ok-put-clause-known : goal.returns-in-Ok-put-clause-known
-returns-in-Ok-put-clause-known g c = λ at told. inr (Ok c.in-Ok.text.items, c.in-Ok.ensures.found at told, inl refl)
+returns-in-Ok-put-clause-known g c = λ at told. inr (Ok (done_of c.in-Ok.made), c.in-Ok.ensures.found at told, inl refl)
 
 pub returns-in-Ok-put-clause-done : goal.returns-in-Ok-put-clause-done
 returns-in-Ok-put-clause-done g c = λ _.
-    (c.in-Ok.text.items, c.in-Ok.ensures.found, subst (λ (piece : List ℕ). Appends (g.K.Sink.held c.args.out.now) (g.K.Sink.held c.put.new.self) piece) c.deref.ensures.value c.in-Ok-put.ensures.told)
+    (done_of c.in-Ok.made, c.in-Ok.ensures.found, subst (λ (piece : List ℕ). Appends (g.K.Sink.held c.args.out.now) (g.K.Sink.held c.put.new.self) piece) c.get.ensures c.in-Ok-put.ensures.told, c.report.ensures.told)
 
 pub returns-clause-usage : goal.returns-clause-usage
 returns-clause-usage g c =
@@ -45,14 +46,14 @@ returns-clause-usage g c =
     (λ two. absurd (omega (arith, six, two)), λ none. absurd (c.in-Ok.ensures.usage none))
 
 pub returns-clause-known : goal.returns-clause-known
-returns-clause-known g c = λ at told. inr (Ok c.in-Ok.text.items, c.in-Ok.ensures.found at told, inr (c.tell-in-Err-Failed.ensures.output refl))
+returns-clause-known g c = λ at told. inr (Ok (done_of c.in-Ok.made), c.in-Ok.ensures.found at told, inr (c.tell-in-Err-Failed.ensures.output refl))
 
 pub returns-clause-partial : goal.returns-clause-partial
 returns-clause-partial g c = λ _.
     let (taken, came) = c.in-Err-Failed.ensures.told in (
-      c.in-Ok.text.items,
+      (done_of c.in-Ok.made),
       c.in-Ok.ensures.found,
-      (taken, subst (λ (piece : List ℕ). Appends (g.K.Sink.held c.args.out.now) (g.K.Sink.held c.put.new.self) (take taken piece)) c.deref.ensures.value came),
+      (taken, subst (λ (piece : List ℕ). Appends (g.K.Sink.held c.args.out.now) (g.K.Sink.held c.put.new.self) (take taken piece)) c.get.ensures came),
     )
 
 pub returns-clause-line : goal.returns-clause-line
