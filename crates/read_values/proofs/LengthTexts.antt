@@ -220,7 +220,7 @@ is_small size h = grind (arith, h)
 small : (size : ℕ) → nat_le size 100000000 ≡ true → size ≤ 100000000
 small size h = grind (arith, h)
 
-value_read : (text : List ℕ) (units : ℤ) → Says text units → IsLength units → length_value text ≡ Some units
+pub value_read : (text : List ℕ) (units : ℤ) → Says text units → IsLength units → length_value text ≡ Some units
 value_read text units (given, is_one, same, value) within =
     let read : any_length text ≡ Some given = ap any_length (sym same) ∙ any_read given.below_zero given.whole given.fraction given.measure is_one.digits_before is_one.digits_behind in
     let most : size_of given ≤ 100000000 = length_most given.below_zero (size_of given) (subst (λ (z : ℤ). IsLength z) (sym value) within) in
