@@ -1,0 +1,4 @@
+pub mod Bare
+pub mod Kept
+pub mod Lists
+pub mod Values
