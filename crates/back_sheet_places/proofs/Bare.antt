@@ -1,5 +1,5 @@
 -- What an element is without places.
-use Rattle.std.proofs.Common.{◌≡◌, ℕ, List, [], ◌∷◌, map, refl, ap, ap₂, sym, subst, ◌∙◌, option_map, Option}
+use Rattle.std.proofs.Common.{◌≡◌, ℕ, List, [], ◌∷◌, map, refl, ap, ap₂, sym, subst, ◌∙◌}
 use mathlib.Core.Former.{this}
 use Rattle.markup_nodes.specs.formers.nodes.Nodes.{the_former}
 use Rattle.markup_nodes.specs.Node.{Node, Element, Char}
@@ -9,7 +9,7 @@ use Rattle.load_model.specs.declared.element.Attribute.{Attribute}
 use Rattle.load_model.specs.declared.element.Element.{Element as Read, out-Element, roll-Element}
 use Rattle.load_model.specs.declared.element.Element.TheOpen.{Element-F}
 use Rattle.load_model.specs.declared.element.Element.TheViews.{out-roll-Element}
-use Rattle.load_model.specs.declared.element.Element.TheFolds.{fold-Element, fold_out-Element, fold-roll-Element, map-Element, ind-Element}
+use Rattle.load_model.specs.declared.element.Element.TheFolds.{fold-Element, fold_out-Element, fold-roll-Element, ind-Element}
 use Rattle.load_model.specs.Left.{children, tag_of, attributes_of}
 use Rattle.back_names.specs.Named.{placeless, placeless_elem, placeless_node}
 
@@ -30,6 +30,9 @@ out_bare element =
 
 pub tag_bare : (element : Read) → tag_of (placeless element) ≡ tag_of element
 tag_bare element = ap (λ (parts : Element-F Read). parts.tag) (out_bare element)
+
+pub place_bare : (element : Read) → (out-Element (placeless element)).place ≡ 0
+place_bare element = ap (λ (parts : Element-F Read). parts.place) (out_bare element)
 
 pub attributes_bare : (element : Read) → attributes_of (placeless element) ≡ attributes_of element
 attributes_bare element = ap (λ (parts : Element-F Read). parts.attributes) (out_bare element)

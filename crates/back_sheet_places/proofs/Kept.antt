@@ -1,5 +1,5 @@
 -- What is kept of a tree without places is what is kept of the tree, each without places.
-use Rattle.std.proofs.Common.{◌≡◌, ℕ, ◌&&◌, ◌||◌, not, Bool, true, false, List, [], ◌∷◌, map, filter, filter_map, refl, ap, ap₂, sym, ◌∙◌, Option, Some, None, option_map, option_to_list, is_some}
+use Rattle.std.proofs.Common.{◌≡◌, ℕ, ◌&&◌, ◌||◌, Bool, true, false, List, [], map, filter, filter_map, refl, ap, ap₂, sym, ◌∙◌, Option, Some, None, option_map, option_to_list, is_some}
 use Rattle.std.specs.List.{flat_map}
 use Rattle.std.specs.Option.{option_map_or}
 use Rattle.std.specs.Str.{bytes_eq}
@@ -10,14 +10,13 @@ use Rattle.load_model.specs.declared.names.Key.TheVariants as key
 use Rattle.load_model.specs.declared.names.Tag.{Tag}
 use Rattle.load_model.specs.declared.names.Tag.TheVariants as tag
 use Rattle.load_model.specs.declared.element.Element.{Element}
-use Rattle.load_model.specs.declared.element.Attribute.{Attribute}
 use Rattle.load_model.specs.Values as value
 use Rattle.load_model.specs.Values.{stated}
-use Rattle.load_model.specs.Left.{children, attributes_of, tag_of, is_same_tag, is, first, firsts}
+use Rattle.load_model.specs.Left.{children, tag_of, is_same_tag, is, first, firsts}
 use Rattle.load_model.specs.Styles.{InPart, style_parts, in_parts, parts_of_kind, family_of, name_of, have_same_name, have_same_family, named, kept_styles, is_default_style, kept_default, kept_outline, kept_lists, kept_layouts, masters_in, kept_masters, StyleName, style_name, names_of}
 use Rattle.back_names.specs.Named.{placeless}
 use Rattle.back_sheet_places.proofs.Bare.{tag_bare, attributes_bare, children_bare}
-use Rattle.back_sheet_places.proofs.Lists.{filtered, firsts_changed, found, listed, or_otherwise, mapped, joined, picked, joined_changed}
+use Rattle.back_sheet_places.proofs.Lists.{filtered, firsts_changed, found, mapped, joined, picked, joined_changed}
 
 -- an element of a style part without places
 abbrev pub bare_in : InPart → InPart
@@ -77,7 +76,7 @@ in_parts_bare root =
     ap (flat_map held_by) (parts_bare root) ∙ joined placeless held_by (λ part. map bare_in (held_by part)) held_bare (style_parts root)
     ∙ joined_changed bare_in (λ part. map bare_in (held_by part)) held_by (λ part. refl) (style_parts root)
 
-abbrev element_in : InPart → Element
+abbrev pub element_in : InPart → Element
 element_in in_part = in_part.element
 
 pub elements_bare : (root : Element) → map element_in (in_parts (placeless root)) ≡ map placeless (map element_in (in_parts root))
@@ -104,7 +103,7 @@ kept_styles_bare root =
     ap (λ (held : List InPart). firsts are_same_style (filter is_style held)) (in_parts_bare root)
     ∙ ap (firsts are_same_style) (filtered bare_in is_style is_style is_style_bare (in_parts root))
     ∙ firsts_changed bare_in are_same_style are_same_style
-      (λ one other. ap₂ (λ (own name : Bool). own && name) (same_family_bare one.element other.element) (same_name_bare one.element other.element)) (filter is_style (in_parts root))
+    (λ one other. ap₂ (λ (own name : Bool). own && name) (same_family_bare one.element other.element) (same_name_bare one.element other.element)) (filter is_style (in_parts root))
 
 named_bare : (of_kind : Tag) (elements : List Element) → named (is of_kind) (map placeless elements) ≡ map placeless (named (is of_kind) elements)
 named_bare of_kind elements =
@@ -149,7 +148,7 @@ names_bare root =
     ∙ joined bare_in (λ in_part. style_name in_part.element) (λ in_part. style_name in_part.element) (λ in_part. style_name_bare in_part.element) (kept_styles root))
     (of_names kept_lists (kept_lists_bare root))
     ∙ ap₂ (λ (own others : List (List ℕ)). record { styles = (names_of root).styles; lists = (names_of root).lists; layouts = own; masters = others })
-      (of_names kept_layouts (kept_layouts_bare root)) (of_names kept_masters (kept_masters_bare root))
+    (of_names kept_layouts (kept_layouts_bare root)) (of_names kept_masters (kept_masters_bare root))
   where
     of_names : (kept : Element → List Element) → kept (placeless root) ≡ map placeless (kept root) → filter_map name_of (kept (placeless root)) ≡ filter_map name_of (kept root)
     of_names kept e = ap (filter_map name_of) e ∙ picked placeless name_of name_of name_bare (kept root)

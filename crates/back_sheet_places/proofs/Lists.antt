@@ -1,5 +1,5 @@
 -- What is chosen, found and joined of changed things, where the changes are of no account.
-use Rattle.std.proofs.Common.{◌≡◌, ℕ, Bool, true, false, cond, not, List, [], ◌∷◌, ◌++◌, map, filter, filter_map, find, take, length, refl, ap, ap₂, sym, ◌∙◌, Option, Some, None, option_map, option_to_list}
+use Rattle.std.proofs.Common.{◌≡◌, Bool, true, false, cond, not, List, [], ◌∷◌, ◌++◌, map, filter, filter_map, find, refl, ap, ap₂, sym, ◌∙◌, Option, Some, None, option_map, option_to_list}
 use Rattle.std.specs.List.{flat_map, cons_option}
 use Rattle.std.specs.Option.{option_map_or}
 use Rattle.std.proofs.lemmas.List.{map-append}
@@ -58,6 +58,14 @@ module _ {X Y : Type 0} (change : X → Y) where
 pub next : {X : Type 0} {one other : X} {more others : List X} → one ≡ other → more ≡ others → (one ∷ more) ≡ (other ∷ others)
 next e rest = ap₂ (λ x xs. x ∷ xs) e rest
 
+pub last : {X : Type 0} {one other : X} → one ≡ other → (one ∷ []) ≡ (other ∷ [])
+last e = ap (λ x. x ∷ []) e
+
 pub none_changed : {X Y : Type 0} (change : X → Y) (xs : List X) → map change xs ≡ [] → xs ≡ []
 none_changed change [] e = refl
 none_changed change (x ∷ xs) e = absurd cc
+
+-- what several make, each changed
+pub changed_joined : {X Y Z : Type 0} (change : Y → Z) (made : X → List Y) (plain : X → List Z) → ((x : X) → map change (made x) ≡ plain x) → (xs : List X) → map change (flat_map made xs) ≡ flat_map plain xs
+changed_joined change made plain e [] = refl
+changed_joined change made plain e (x ∷ xs) = map-append change (made x) (flat_map made xs) ∙ ap₂ (λ one more. one ++ more) (e x) (changed_joined change made plain e xs)

@@ -1,5 +1,5 @@
 -- The values of the style parts don't look at places.
-use Rattle.std.proofs.Common.{◌≡◌, ℕ, ◌==◌, ◌&&◌, ◌||◌, not, Bool, true, false, cond, List, [], ◌∷◌, ◌++◌, map, filter, refl, ap, ap₂, sym, ◌∙◌, Option, Some, None, option_map, option_to_list, is_some}
+use Rattle.std.proofs.Common.{◌≡◌, ℕ, ◌==◌, ◌&&◌, ◌||◌, not, Bool, false, cond, List, [], ◌∷◌, ◌++◌, map, filter, refl, ap, ap₂, ◌∙◌, Option, option_map, option_to_list, is_some}
 use Rattle.std.specs.List.{flat_map}
 use Rattle.std.specs.Option.{option_map_or}
 use Rattle.doc_model.specs.declared.style.Family.{Family}
@@ -13,7 +13,6 @@ use Rattle.doc_model.specs.declared.list_style.LevelWhat.TheVariants.{Bullet, Nu
 use Rattle.doc_model.specs.declared.page_layout.PageLayout.{PageLayout}
 use Rattle.doc_model.specs.Empty.{unstated}
 use Rattle.load_model.specs.declared.names.Key.TheVariants as key
-use Rattle.load_model.specs.declared.names.Tag.{Tag}
 use Rattle.load_model.specs.declared.names.Tag.TheVariants as tag
 use Rattle.load_model.specs.declared.element.Element.{Element}
 use Rattle.load_model.specs.declared.element.Attribute.{Attribute}

@@ -3,4 +3,7 @@
 
 mod laws;
 
-pub use laws::sheets_need_no_places;
+pub use laws::{
+    files_need_no_places, head_lengths_need_no_places, loops_need_no_places,
+    masters_need_no_places, sheets_need_no_places,
+};
