@@ -1,12 +1,12 @@
 -- A valid document has what is asked of a text that is read back.
-use Rattle.std.proofs.Common.{◌≡◌, ◌≢◌, ℕ, ◌≤◌, false, List, [], ◌∷◌, ◌++◌, map, length, max, fold, sym, subst, arith, Option, Some, None}
-use Rattle.std.specs.List.{flat_map, AllByRecursion as Each}
+use Rattle.std.proofs.Common.{◌≢◌, ℕ, ◌≤◌, false, List, [], ◌∷◌, ◌++◌, map, length, sym, subst, arith, Option, Some, None}
+use Rattle.std.specs.List.{AllByRecursion as Each}
 use Rattle.doc_model.specs.declared.block.SectionSource.{SectionSource}
 use Rattle.doc_model.specs.declared.document.Document.{Document}
 use Rattle.doc_model.specs.declared.page_layout.HeadPar.{HeadPar}
 use Rattle.doc_model.specs.declared.paragraph.ListPos.{ListPos}
 use Rattle.doc_model.specs.declared.paragraph.Note.{Note, out-Note}
-use Rattle.doc_model.specs.declared.paragraph.Par.{Par, out-Par, roll-Par}
+use Rattle.doc_model.specs.declared.paragraph.Par.{Par, out-Par}
 use Rattle.doc_model.specs.declared.style.Family.TheVariants as family
 use Rattle.doc_model.specs.Alike.{in_paragraph, unnumbered}
 use Rattle.doc_model.specs.Parts.{SectionHead, all_fields, head_paragraphs, items_of, names_of_section, notes, sections}

@@ -43,14 +43,14 @@ module _ (change : Par → Par) where
   par_follows : (par : Par) → Follows (par_block par)
   par_follows par = (
     ap block_paragraphs (par_changes change par) ∙ par_reads (in_paragraph change par) ∙ sym (ap (map (in_paragraph change)) (par_reads par)),
-    ap block_sections (par_changes change par) ∙ par_sections (in_paragraph change par) ∙ sym (par_sections par)
+    ap block_sections (par_changes change par) ∙ par_sections (in_paragraph change par) ∙ sym (par_sections par),
   )
 
   section_follows : (x : Section-F Block Section) → Each Follows x.blocks → Follows (section_block x)
   section_follows x each = (
     ap block_paragraphs (section_changes change x) ∙ section_reads (record x { blocks = map (in_block change) x.blocks }) ∙ pars_follow x.blocks each ∙ sym (ap (map (in_paragraph change)) (section_reads x)),
     ap block_sections (section_changes change x) ∙ section_sections (record x { blocks = map (in_block change) x.blocks })
-    ∙ ap₂ (λ (n : _) (more : List SectionHead). record (head_of x) { blocks = n } ∷ more) (length-map x.blocks (in_block change)) (sections_follow x.blocks each) ∙ sym (section_sections x)
+        ∙ ap₂ (λ (n : _) (more : List SectionHead). record (head_of x) { blocks = n } ∷ more) (length-map x.blocks (in_block change)) (sections_follow x.blocks each) ∙ sym (section_sections x),
   )
 
   pub body_changed : (doc : Document) → body_paragraphs (in_document change doc) ≡ map (in_paragraph change) (body_paragraphs doc)

@@ -1,5 +1,5 @@
 -- What a valid document has in each item.
-use Rattle.std.proofs.Common.{◌≡◌, ◌≢◌, ℕ, ◌≤◌, List, [], ◌∷◌, map, length}
+use Rattle.std.proofs.Common.{◌≢◌, List, [], ◌∷◌}
 use Rattle.std.specs.List.{flat_map, AllByRecursion as Each}
 use Rattle.doc_model.specs.declared.document.Document.{Document}
 use Rattle.doc_model.specs.declared.field.Field.{Field}
@@ -19,7 +19,7 @@ use Rattle.back_references.proofs.Good.{span_good}
 use Rattle.back_spans.specs.Spans.{IsTextStyle}
 use Rattle.back_valid.specs.Found.{AreNamesOf, IsAdjusted}
 use Rattle.back_valid.proofs.Lists.{among, each_also, each_joined, each_part}
-use Rattle.back_valid.proofs.Short.{AreShort, short}
+use Rattle.back_valid.proofs.Short.{short}
 
 -- a field or mark has what it needs
 abbrev pub IsSoundWhat : What-F What Item Note Par → Type 0

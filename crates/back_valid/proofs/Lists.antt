@@ -1,5 +1,5 @@
 -- What holds of each in a list.
-use Rattle.std.proofs.Common.{◌≡◌, ◌≢◌, ℕ, ◌≤◌, ◌<◌, ◌+◌, zero, suc, List, [], ◌∷◌, ◌++◌, map, max, fold, length, slice_index_or, ◌∙◌, arith}
+use Rattle.std.proofs.Common.{◌≡◌, ◌≢◌, ℕ, ◌≤◌, ◌<◌, zero, suc, List, [], ◌∷◌, map, max, fold, length, slice_index_or, ◌∙◌, arith}
 use Rattle.std.specs.List.{flat_map, Any, AllByRecursion as Each}
 use Rattle.back_spans.proofs.Runs.{each_both}
 

@@ -1,6 +1,6 @@
 -- Paragraphs whose items are sound can be read back once their numbers are left out.
-use Rattle.std.proofs.Common.{◌≡◌, ◌≢◌, ℕ, ◌≤◌, Bool, true, false, List, [], ◌∷◌, map, length, codes, refl, sym, ap, ◌∙◌, subst, Option, Some, None}
-use Rattle.std.specs.List.{flat_map, AllByRecursion as Each}
+use Rattle.std.proofs.Common.{◌≡◌, ◌≢◌, ℕ, ◌≤◌, Bool, true, false, List, [], ◌∷◌, map, length, codes, refl, sym, ap, ◌∙◌, subst}
+use Rattle.std.specs.List.{AllByRecursion as Each}
 use Rattle.std.proofs.lemmas.List.{length-map}
 use Rattle.markup_nodes.specs.declared.tree.Elem.{Elem}
 use Rattle.markup_nodes.specs.Node.{Node}
@@ -15,7 +15,7 @@ use Rattle.doc_model.specs.Alike.{in_note, in_paragraph}
 use Rattle.doc_model.specs.Chars.{IsLegalText}
 use Rattle.doc_model.specs.Parts.{items_of, what_of}
 use Rattle.doc_model.specs.Reading.{note_of, notes_of}
-use Rattle.doc_model.specs.Valid.{IsItem, IsNote}
+use Rattle.doc_model.specs.Valid.{IsNote}
 use Rattle.load_model.specs.Content.{item_in}
 use Rattle.load_model.specs.Styles.{Names, style_reference}
 use Rattle.written_model.specs.Blocks.{note_element}
@@ -26,7 +26,7 @@ use Rattle.back_paragraphs.specs.Paragraphs.{IsNoneOrGood, IsPlace, IsReadableNo
 use Rattle.back_paragraphs.proofs.Notes.{note_read}
 use Rattle.back_spans.specs.Spans.{IsTextStyle}
 use Rattle.back_valid.proofs.Items.{IsSound, IsSoundWhat}
-use Rattle.back_valid.proofs.Lists.{each_also, each_joined, each_map, each_part}
+use Rattle.back_valid.proofs.Lists.{each_joined, each_map, each_part}
 
 abbrev Layer : Type 0
 Layer = Par-F What Item Note Par
@@ -127,7 +127,7 @@ module _ (names : Names) where
 
   note_readable : (note : Note) → IsSoundNote note → IsReadableNote names (roll-Note (record (out-Note note) { pars = map bare_par (out-Note note).pars }))
   note_readable note sound = record { id = layer.id; some = layer.some; each = layer.each } where
-    abbrev pars : List Par
+    pars : List Par
     pars = (out-Note note).pars
 
     layer : IsNoteLayer (out-Note (roll-Note (record (out-Note note) { pars = map bare_par pars })))

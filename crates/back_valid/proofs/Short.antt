@@ -4,7 +4,7 @@ use Rattle.std.specs.List.{flat_map, AllByRecursion as Each}
 use Rattle.doc_model.specs.declared.document.Document.{Document}
 use Rattle.doc_model.specs.declared.paragraph.Note.{Note, out-Note}
 use Rattle.doc_model.specs.Limits.{IsWithinLimits}
-use Rattle.doc_model.specs.Parts.{all_fields, all_items, mark_name, mark_of, names, names_of_field, names_of_paragraph, names_of_section, names_of_style, notes, sections, span_names}
+use Rattle.doc_model.specs.Parts.{all_fields, all_items, mark_name, mark_of, names_of_field, names_of_paragraph, names_of_section, names_of_style, notes, sections, span_names}
 use Rattle.doc_model.specs.Reading.{paragraphs}
 use Rattle.back_fields.specs.Fit.{IsNameOrNone}
 use Rattle.back_references.proofs.Short.{names_short}
@@ -49,9 +49,9 @@ eight P o v q s p i f m n each =
 pub short : (doc : Document) → IsWithinLimits doc → AreShort doc
 short doc within =
     let all =
-        eight IsNameOrNone (flat_map names_of_style doc.styles ++ map (λ list. list.name) doc.lists ++ doc.outline.name ∷ map (λ layout. layout.name) doc.layouts ++ flat_map (λ master. master.name ∷ master.layout ∷ master.next ∷ []) doc.masters)
-        doc.variables doc.sequences (flat_map names_of_section (sections doc)) (flat_map names_of_paragraph (paragraphs doc)) (span_names doc)
-        (flat_map names_of_field (all_fields doc)) (map mark_name (flat_map mark_of (all_items doc))) (map (λ (note : Note). (out-Note note).id) (notes doc)) (names_short doc within) in
+    eight IsNameOrNone (flat_map names_of_style doc.styles ++ map (λ list. list.name) doc.lists ++ doc.outline.name ∷ map (λ layout. layout.name) doc.layouts ++ flat_map (λ master. master.name ∷ master.layout ∷ master.next ∷ []) doc.masters)
+    doc.variables doc.sequences (flat_map names_of_section (sections doc)) (flat_map names_of_paragraph (paragraphs doc)) (span_names doc)
+    (flat_map names_of_field (all_fields doc)) (map mark_name (flat_map mark_of (all_items doc))) (map (λ (note : Note). (out-Note note).id) (notes doc)) (names_short doc within) in
     record {
       variables = all.of_variables;
       sequences = all.of_sequences;
