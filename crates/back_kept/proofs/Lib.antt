@@ -1,0 +1,4 @@
+pub mod Keys
+pub mod Nodes
+pub mod Things
+pub mod Contents
