@@ -80,18 +80,17 @@ module _ (here : Where) where
   runs_nodes (node ∷ nodes) = front_nodes node (runs_of nodes) ∙ ap (λ (more : List (Node Elem)). node.node ∷ more) (runs_nodes nodes)
 
   module _ (inner : List Spanned → List (Node Elem)) (inside : (nodes : List Spanned) → Flattens (inner nodes) (nodes_in nodes)) where
-    abbrev outer : Option (List ℕ) → List Spanned → List (Node Elem)
-    outer None nodes = nodes_in nodes
-    outer (Some name) nodes = span_element name (inner nodes) ∷ []
+    abbrev run_of : Option (List ℕ) → List Spanned → Run
+    run_of outermost nodes = record { outermost = outermost; inside = nodes }
 
-    flat_run : (outermost : Option (List ℕ)) (nodes : List Spanned) → Flattens (outer outermost nodes) (nodes_in nodes)
+    flat_run : (outermost : Option (List ℕ)) (nodes : List Spanned) → Flattens (of_run inner (run_of outermost nodes)) (nodes_in nodes)
     flat_run None nodes = flat_self (nodes_in nodes)
     flat_run (Some name) nodes = flat_span name (inner nodes) (nodes_in nodes) (inside nodes)
 
     flat_runs : (runs : List Run) → Flattens (flat_map (of_run inner) runs) (flat_map (λ (run : Run). nodes_in run.inside) runs)
     flat_runs [] = flat_self []
     flat_runs (run ∷ runs) =
-        flat_both (outer run.outermost run.inside) (flat_map (of_run inner) runs) (nodes_in run.inside) (flat_map (λ (one : Run). nodes_in one.inside) runs)
+        flat_both (of_run inner (run_of run.outermost run.inside)) (flat_map (of_run inner) runs) (nodes_in run.inside) (flat_map (λ (one : Run). nodes_in one.inside) runs)
         (flat_run run.outermost run.inside) (flat_runs runs)
 
   flat_spans : (depth : ℕ) (nodes : List Spanned) → Flattens (in_spans depth nodes) (nodes_in nodes)
@@ -127,19 +126,20 @@ no_thing (What-F.Mark mark) b e = cc
 
 pieces_things : (before items : List Item) → flat_map things_at (pieces_of (placed before items)) ≡ flat_map things_of items
 pieces_things before [] = refl
-pieces_things before (item ∷ after) = by_test (is_space item && not (stands_for_itself here)) refl where
+pieces_things before (item ∷ after) = by_test (is_space item && not (stands_for_itself here)) refl (pieces_things (item ∷ before) after) where
   here : Placed
   here = record { before = before; item = item; after = after }
 
   more : List Piece
   more = pieces_of (placed (item ∷ before) after)
 
-  by_test : (b : Bool) → (is_space item && not (stands_for_itself here)) ≡ b → flat_map things_at (cond (is_space item && not (stands_for_itself here)) (behind_space (out-Item item).spans more) (As item ∷ more)) ≡ flat_map things_of (item ∷ after)
-  by_test true e =
-      ap (λ (b : Bool). flat_map things_at (cond b (behind_space (out-Item item).spans more) (As item ∷ more))) e ∙ space_things (out-Item item).spans more ∙ pieces_things (item ∷ before) after
+  by_test : (b : Bool) → (is_space item && not (stands_for_itself here)) ≡ b → flat_map things_at more ≡ flat_map things_of after
+      → flat_map things_at (cond (is_space item && not (stands_for_itself here)) (behind_space (out-Item item).spans more) (As item ∷ more)) ≡ flat_map things_of (item ∷ after)
+  by_test true e rest =
+      ap (λ (b : Bool). flat_map things_at (cond b (behind_space (out-Item item).spans more) (As item ∷ more))) e ∙ space_things (out-Item item).spans more ∙ rest
       ∙ ap (λ (things : List Thing). things ++ flat_map things_of after) (no_thing (what_of item) (not (stands_for_itself here)) e)
-  by_test false e =
-      ap (λ (b : Bool). flat_map things_at (cond b (behind_space (out-Item item).spans more) (As item ∷ more))) e ∙ ap (λ (things : List Thing). things_of item ++ things) (pieces_things (item ∷ before) after)
+  by_test false e rest =
+      ap (λ (b : Bool). flat_map things_at (cond b (behind_space (out-Item item).spans more) (As item ∷ more))) e ∙ ap (λ (things : List Thing). things_of item ++ things) rest
 
 -- what holds of each item holds of those that stand for themselves
 module _ (Fine : Item → Type 0) where

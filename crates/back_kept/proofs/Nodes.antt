@@ -52,22 +52,23 @@ pub record IsOf (t : Read) (tag : Tag) (attributes : List Attribute) (nodes : Li
 abbrev Layer : Type 0
 Layer = Element-F Read
 
+abbrev layer : ℕ → Tag → List Attribute → List (Node Read) → Layer
+layer place tag attributes nodes = record { place = place; tag = tag; attributes = attributes; nodes = nodes }
+
 layer_is : (t : Read) (place : ℕ) (name : List ℕ) (attrs : List Attr) (nodes : List (Node Elem)) → placeless t ≡ named (elem_of place name attrs nodes)
-    → record { place = 0; tag = (out-Element t).tag; attributes = (out-Element t).attributes; nodes = bare_nodes (out-Element t).nodes }
-    ≡ record { place = place; tag = tag_named name; attributes = map named_attribute attrs; nodes = map named_node nodes }
+    → layer 0 (out-Element t).tag (out-Element t).attributes (bare_nodes (out-Element t).nodes) ≡ layer place (tag_named name) (map named_attribute attrs) (map named_node nodes)
 layer_is t place name attrs nodes e =
-    sym (ap out-Element (fold_out-Element Read placeless_elem t)
-    ∙ out-roll-Element (record { place = 0; tag = (out-Element t).tag; attributes = (out-Element t).attributes; nodes = bare_nodes (out-Element t).nodes }))
-    ∙ ap out-Element (e ∙ named_of place name attrs nodes) ∙ out-roll-Element (record { place = place; tag = tag_named name; attributes = map named_attribute attrs; nodes = map named_node nodes })
+    sym (ap out-Element (fold_out-Element Read placeless_elem t) ∙ out-roll-Element (layer 0 (out-Element t).tag (out-Element t).attributes (bare_nodes (out-Element t).nodes)))
+    ∙ ap out-Element (e ∙ named_of place name attrs nodes) ∙ out-roll-Element (layer place (tag_named name) (map named_attribute attrs) (map named_node nodes))
 
 pub is_of : (t : Read) (place : ℕ) (name : List ℕ) (attrs : List Attr) (nodes : List (Node Elem)) (tag : Tag) (attributes : List Attribute) → placeless t ≡ named (elem_of place name attrs nodes)
     → tag_named name ≡ tag → map named_attribute attrs ≡ attributes → IsOf t tag attributes nodes
 is_of t place name attrs nodes tag attributes e is are =
-    let layer = layer_is t place name attrs nodes e in
+    let same = layer_is t place name attrs nodes e in
     record {
-      tag_is = ap (λ (x : Layer). x.tag) layer ∙ is;
-      attributes_are = ap (λ (x : Layer). x.attributes) layer ∙ are;
-      nodes_of = nodes_are (out-Element t).nodes nodes (ap (λ (x : Layer). x.nodes) layer);
+      tag_is = ap (λ (x : Layer). x.tag) same ∙ is;
+      attributes_are = ap (λ (x : Layer). x.attributes) same ∙ are;
+      nodes_of = nodes_are (out-Element t).nodes nodes (ap (λ (x : Layer). x.nodes) same);
     }
 
 -- what it gives by where it stands
