@@ -2,3 +2,5 @@ pub mod Keys
 pub mod Nodes
 pub mod Things
 pub mod Contents
+pub mod Named
+pub mod Paragraphs

@@ -1,5 +1,5 @@
 -- The elements of a tree that is written so, whatever their places, and what they give.
-use Rattle.std.proofs.Common.{◌≡◌, ℕ, List, [], ◌∷◌, ◌++◌, map, refl, sym, ap, ap₂, ◌∙◌, append_assoc}
+use Rattle.std.proofs.Common.{◌≡◌, ℕ, List, [], ◌∷◌, ◌++◌, map, refl, sym, ap, ap₂, ◌∙◌, append_assoc, append-nil}
 use mathlib.Core.Former.{this}
 use Rattle.markup_nodes.specs.formers.nodes.Nodes.{the_former}
 use Rattle.markup_nodes.specs.declared.words.Attr.{Attr}
@@ -13,6 +13,7 @@ use Rattle.load_model.specs.declared.element.Element.TheOpen.{Element-F}
 use Rattle.load_model.specs.declared.element.Element.TheViews.{out-roll-Element}
 use Rattle.load_model.specs.declared.element.Element.TheFolds.{fold_out-Element}
 use Rattle.load_model.specs.Met.{Gives, Met, Where, each, gives_of, in_blocks, in_content, in_list}
+use Rattle.written_model.specs.Elements.{element}
 use Rattle.back_names.specs.Named.{named, named_attribute, named_node, placeless, placeless_elem, tag_named}
 use Rattle.back_names.proofs.Parts.{elem_of, named_of}
 use Rattle.met_read.specs.Walk.{held}
@@ -103,6 +104,38 @@ nodes_met role here (Char c ∷ ts) us = nodes_met role here ts us
 nodes_met role here (Element t ∷ ts) us =
     ap (λ (more : List Met). role (gives_of t) here ++ more) (nodes_met role here ts us)
     ∙ sym (append_assoc (role (gives_of t) here) (each role here (map gives_of (elems ts))) (each role here (map gives_of (elems us))))
+
+-- a node that is such an element, and what it gives
+pub record IsElement (t : Node Read) (tag : Tag) (attributes : List Attribute) (nodes : List (Node Elem)) : Type 0 where
+  pub found : Read
+  pub found_is : t ≡ Element found
+  pub is : IsOf found tag attributes nodes
+
+pub element_of : (t : Node Read) (name : List ℕ) (attrs : List Attr) (nodes : List (Node Elem)) (tag : Tag) (attributes : List Attribute) → IsNodeOf t (element name attrs nodes)
+    → tag_named name ≡ tag → map named_attribute attrs ≡ attributes → IsElement t tag attributes nodes
+element_of (Char c) name attrs nodes tag attributes of is are = absurd of
+element_of (Element t) name attrs nodes tag attributes of is are = record { found = t; found_is = refl; is = is_of t 0 name attrs nodes tag attributes of is are }
+
+module _ (t : Node Read) (tag : Tag) (attributes : List Attribute) (nodes : List (Node Elem)) (one : IsElement t tag attributes nodes) where
+  pub content_one : (here : Where) → content_met here (t ∷ []) ≡ in_content tag (out-Element one.found).place attributes (held one.found) here
+  content_one here = ap (λ (n : Node Read). content_met here (n ∷ [])) one.found_is ∙ append-nil ((gives_of one.found).content here) ∙ content_at one.found tag attributes nodes one.is here
+
+  pub blocks_one : (here : Where) → blocks_met here (t ∷ []) ≡ in_blocks tag (out-Element one.found).place attributes (held one.found) here
+  blocks_one here = ap (λ (n : Node Read). blocks_met here (n ∷ [])) one.found_is ∙ append-nil ((gives_of one.found).blocks here) ∙ blocks_at one.found tag attributes nodes one.is here
+
+  pub entries_one : (here : Where) → entries_met here (t ∷ []) ≡ in_list tag (held one.found) here
+  entries_one here = ap (λ (n : Node Read). entries_met here (n ∷ [])) one.found_is ∙ append-nil ((gives_of one.found).entry here) ∙ entry_at one.found tag attributes nodes one.is here
+
+-- one node that is written as the only one
+pub record IsAlone (ts : List (Node Read)) (w : Node Elem) : Type 0 where
+  pub only : Node Read
+  pub only_is : ts ≡ only ∷ []
+  pub only_of : IsNodeOf only w
+
+pub alone : (ts : List (Node Read)) (w : Node Elem) → AreNodesOf ts (w ∷ []) → IsAlone ts w
+alone [] w are = absurd are
+alone (t ∷ []) w are = record { only = t; only_is = refl; only_of = are.0 }
+alone (t ∷ u ∷ ts) w are = absurd are.1
 
 -- nodes that are written as two lists
 pub record AreBoth (ts : List (Node Read)) (ws vs : List (Node Elem)) : Type 0 where
