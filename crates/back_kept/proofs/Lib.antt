@@ -4,3 +4,4 @@ pub mod Things
 pub mod Contents
 pub mod Named
 pub mod Paragraphs
+pub mod Body
