@@ -5,3 +5,4 @@ pub mod Contents
 pub mod Named
 pub mod Paragraphs
 pub mod Body
+pub mod Apart
