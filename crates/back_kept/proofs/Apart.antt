@@ -33,7 +33,7 @@ turned one other = by_test (bytes_eq other one) refl where
     elsewhere e = cc
 
 -- the first of each
-filter_all : {X : Type 0} (test : X → Bool) (xs : List X) → Each (λ x. test x ≡ true) xs → filter test xs ≡ xs
+pub filter_all : {X : Type 0} (test : X → Bool) (xs : List X) → Each (λ x. test x ≡ true) xs → filter test xs ≡ xs
 filter_all test [] each = refl
 filter_all test (x ∷ xs) each = ap (λ (b : Bool). cond b (x ∷ filter test xs) (filter test xs)) each.0 ∙ ap (λ more. x ∷ more) (filter_all test xs each.1)
 
@@ -48,11 +48,11 @@ firsts_all name (x ∷ xs) apart =
     ∙ ap (λ more. x ∷ more) (filter_all (λ other. not (bytes_eq (name x) (name other))) xs (others name (name x) xs apart.0))
 
 -- each of some things is at one of their places
-or_true : (b : Bool) → (b || true) ≡ true
+pub or_true : (b : Bool) → (b || true) ≡ true
 or_true true = refl
 or_true false = refl
 
-at_own : (place : ℕ) → (place == place) ≡ true
+pub at_own : (place : ℕ) → (place == place) ≡ true
 at_own place = (Decides-eqb place place).1 refl
 
 each_among : {X : Type 0} (place : X → ℕ) (places : List ℕ) (xs : List X) → ((p : ℕ) → is_at (map place xs) p ≡ true → is_at places p ≡ true) → Each (λ x. is_at places (place x) ≡ true) xs

@@ -6,3 +6,4 @@ pub mod Named
 pub mod Paragraphs
 pub mod Body
 pub mod Apart
+pub mod Marks
