@@ -7,3 +7,4 @@ pub mod Paragraphs
 pub mod Body
 pub mod Apart
 pub mod Marks
+pub mod Told
