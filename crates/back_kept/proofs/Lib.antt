@@ -8,3 +8,4 @@ pub mod Body
 pub mod Apart
 pub mod Marks
 pub mod Told
+pub mod Counts
