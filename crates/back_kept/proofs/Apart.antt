@@ -115,6 +115,21 @@ once wanted (name ∷ names) given pairs = by_test (bytes_eq wanted name) refl (
   by_test true e rest = rw e (rw (none_later names (is_same wanted name e) pairs.0) (omega arith))
   by_test false e rest = rw e rest
 
+-- a name that isn't empty among those that there are
+hit_some : (wanted : List ℕ) (names : List (List ℕ)) → (wanted ≡ [] → ⊥) → flat_map (hit wanted) (flat_map some names) ≡ flat_map (hit wanted) names
+hit_some wanted [] given = refl
+hit_some wanted ([] ∷ names) given = hit_some wanted names given ∙ sym (ap (λ (b : Bool). cond b ([] ∷ []) [] ++ flat_map (hit wanted) names) (differ wanted [] given))
+hit_some wanted ((c ∷ cs) ∷ names) given = ap (λ (more : List (List ℕ)). hit wanted (c ∷ cs) ++ more) (hit_some wanted names given)
+
+none_empty : (names : List (List ℕ)) → flat_map (hit []) (flat_map some names) ≡ []
+none_empty [] = refl
+none_empty ([] ∷ names) = none_empty names
+none_empty ((c ∷ cs) ∷ names) = none_empty names
+
+pub once_some : (wanted : List ℕ) (names : List (List ℕ)) → Pairs names → length (flat_map (hit wanted) (flat_map some names)) ≤ 1
+once_some [] names pairs = rw (none_empty names) (omega arith)
+once_some (c ∷ cs) names pairs = rw (hit_some (c ∷ cs) names (no_end c cs)) (once (c ∷ cs) names (no_end c cs) pairs)
+
 pub none_hit : (wanted : List ℕ) (names : List (List ℕ)) → length (flat_map (hit wanted) names) ≡ 0 → Each (λ other. bytes_eq wanted other ≡ false) names
 none_hit wanted [] e = tt
 none_hit wanted (name ∷ names) e = by_test (bytes_eq wanted name) refl (none_hit wanted names) where

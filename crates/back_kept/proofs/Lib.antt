@@ -9,3 +9,4 @@ pub mod Apart
 pub mod Marks
 pub mod Told
 pub mod Counts
+pub mod Names
