@@ -10,3 +10,4 @@ pub mod Marks
 pub mod Told
 pub mod Counts
 pub mod Names
+pub mod Bookmarks

@@ -1,5 +1,6 @@
 use Rattle.back_kept.proofs.Contents.{items_met}
 use Rattle.back_kept.proofs.Named.{inner_met}
+use Rattle.back_kept.proofs.Bookmarks.{bookmark_seen}
 use Rattle.back_kept.proofs.Names.{references_apart}
 use Rattle.back_kept.proofs.Counts.{all_counted}
 use Rattle.back_kept.proofs.Told.{told_heads, told_items}
