@@ -11,3 +11,4 @@ pub mod Told
 pub mod Counts
 pub mod Names
 pub mod Bookmarks
+pub mod Everything
