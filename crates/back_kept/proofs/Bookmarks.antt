@@ -17,16 +17,12 @@ use Rattle.doc_model.specs.Parts.{all_items, mark_name, mark_of, notes, what_of}
 use Rattle.doc_model.specs.Reading.{note_of}
 use Rattle.doc_model.specs.Valid.{AreMarksOf, IsBookmark, marks_named}
 use Rattle.load_model.specs.Met.{Met, MetMark, Whole, Start, End, Section, Mark, Note, Reference, Sequence, Variable, Table, marks_met, named_at}
+use Rattle.back_met.proofs.Readable.{marks_in}
 use Rattle.back_kept.proofs.Apart.{turned}
-use Rattle.back_kept.proofs.Body.{block_things}
+use Rattle.back_met.specs.Things.{block_things, AreMet, Counted, Headed, IsMet, Marked, Noted, Thing, field_met, if_any, kind_of, note_items, things_in, things_of}
 use Rattle.back_kept.proofs.Counts.{AnyIn, all_counted, any_in, any_mapped, body_items, count, count_both, each_same, notes_are, twice}
 use Rattle.back_kept.proofs.Marks.{IsWhole, Seen, seen, seen_at, seen_of}
-use Rattle.back_kept.proofs.Things.{AreMet, Counted, Headed, IsMet, Marked, Noted, Thing, field_met, if_any, kind_of, note_items, things_in, things_of}
 use Rattle.back_kept.proofs.Told.{Tells, field_told, head_told, inner_told, mark_told, note_told, told_items}
-
-abbrev pub marks_in : What-F What Item DocNote Par → List DocMark
-marks_in (What-F.Mark mark) = mark ∷ []
-marks_in _ = []
 
 abbrev notes_in : What-F What Item DocNote Par → List DocNote
 notes_in (What-F.Note note) = note ∷ []

@@ -13,7 +13,7 @@ use Rattle.doc_model.specs.declared.paragraph.What.TheOpen.{What-F}
 use Rattle.doc_model.specs.Parts.{all_items, items_of, notes, what_of}
 use Rattle.doc_model.specs.Reading.{body_paragraphs, note_of, notes_of, paragraphs, with_notes}
 use Rattle.back_valid.proofs.Lists.{each_also, each_part}
-use Rattle.back_kept.proofs.Things.{Counted, Headed, Marked, Noted, Thing, note_items, things_in, things_of}
+use Rattle.back_met.specs.Things.{Counted, Headed, Marked, Noted, Thing, note_items, things_in, things_of}
 
 pub twice : {X Y Z : Type 0} (g : Y → List Z) (f : X → List Y) (xs : List X) → flat_map g (flat_map f xs) ≡ flat_map (λ x. flat_map g (f x)) xs
 twice g f [] = refl
@@ -124,12 +124,3 @@ pub any_mapped : {X Y : Type 0} (P : Y → Type 0) (f : X → Y) (xs : List X) �
 any_mapped P f [] any = any
 any_mapped P f (x ∷ xs) (inl here) = inl here
 any_mapped P f (x ∷ xs) (inr more) = inr (any_mapped P f xs more)
-
--- what holds of each item of a document holds of those of its paragraphs and of their notes
-abbrev pub HoldsOf : (Item → Type 0) → Par → Type 0
-HoldsOf P par = Each P (items_of par) × Each (λ note. Each (λ inner. Each P (items_of inner)) (out-Note note).pars) (notes_of par)
-
-pub by_paragraphs : (P : Item → Type 0) (doc : Document) → Each P (all_items doc) → Each (HoldsOf P) (body_paragraphs doc)
-by_paragraphs P doc each =
-    each_also (λ par. Each (λ one. Each P (items_of one)) (with_notes par)) (HoldsOf P) (λ par is. (is.0, each_part (λ one. Each P (items_of one)) pars_in (notes_of par) is.1)) (body_paragraphs doc)
-    (each_part (λ one. Each P (items_of one)) with_notes (body_paragraphs doc) (each_part P items_of (paragraphs doc) each))

@@ -25,13 +25,12 @@ use Rattle.back_valid.proofs.Lists.{among, each_also, each_joined, each_mapped, 
 use Rattle.back_valid.proofs.Short.{short}
 use Rattle.back_kept.specs.Kept.{IsKept}
 use Rattle.back_kept.proofs.Apart.{each_at, firsts_all}
-use Rattle.back_kept.proofs.Body.{IsNamedInner, IsNamedItem, IsNamedNote, block_things, text_read}
-use Rattle.back_kept.proofs.Bookmarks.{bookmark_seen, marks_in}
-use Rattle.back_kept.proofs.Counts.{HoldsOf, body_items, by_paragraphs}
+use Rattle.back_met.specs.Things.{block_things, AreMet, Counted, Headed, IsMet, Marked, Noted, Thing, field_met, if_any, note_items, things_in, things_of}
+use Rattle.back_kept.proofs.Bookmarks.{bookmark_seen}
+use Rattle.back_kept.proofs.Counts.{body_items}
 use Rattle.back_kept.proofs.Marks.{IsWhole, marks_kept, seen}
-use Rattle.back_kept.proofs.Named.{IsNamedField, IsNamedWhat, IsNoNote}
+use Rattle.back_met.proofs.Readable.{AreInner, HoldsOf, IsFine, IsOfBookmark, marks_in, pars_fine, text_met}
 use Rattle.back_kept.proofs.Names.{notes_apart, references_apart, sections_apart}
-use Rattle.back_kept.proofs.Things.{AreMet, Counted, Headed, IsMet, Marked, Noted, Thing, field_met, if_any, note_items, things_in, things_of}
 use Rattle.back_kept.proofs.Told.{Tells, all_body, body_told, inner_told, told_items}
 
 each_append : {X : Type 0} (P : X → Type 0) (xs ys : List X) → Each P xs → Each P ys → Each P (xs ++ ys)
@@ -42,80 +41,7 @@ each_flat : {X Y : Type 0} (P : Y → Type 0) (f : X → List Y) (xs : List X) �
 each_flat P f [] each = tt
 each_flat P f (x ∷ xs) each = each_append P (f x) (flat_map f xs) each.0 (each_flat P f xs each.1)
 
--- the names of fields and marks can be read
-abbrev fields_in : What-F What Item DocNote Par → List Field
-fields_in (What-F.Field field) = field ∷ []
-fields_in _ = []
-
 module _ (doc : Document) (valid : IsValid doc) where
-  field_named : (field : Field) → IsField doc field → Each IsNameOrNone (names_of_field field) → IsNamedField field
-  field_named (fields.Sequence name refname format) is few = ((among doc.sequences name valid.sequences.0 is, few.0), few.1.0)
-  field_named (fields.VarSet name value) is few = (among doc.variables name valid.variables.0 is.0, few.0)
-  field_named (fields.VarGet name) is few = (among doc.variables name valid.variables.0 is, few.0)
-  field_named (fields.Chapter display level) is few = tt
-  field_named (fields.PageNumber select adjust format) is few = tt
-  field_named (fields.PageCount format) is few = tt
-  field_named (fields.BookRef name form) is few = tt
-  field_named (fields.SeqRef name form) is few = tt
-  field_named (fields.NoteRef name class form) is few = tt
-
-  -- the bookmark of a mark is there, and its name can be read
-  abbrev IsOfBookmark : DocMark → Type 0
-  IsOfBookmark mark = IsBookmark doc (mark_name mark) × IsNameOrNone (mark_name mark)
-
-  abbrev IsFine : Item → Type 0
-  IsFine item = Each IsNamedField (field_of item) × Each IsOfBookmark (mark_of item)
-
-  items_fine : Each IsFine (all_items doc)
-  items_fine =
-      each_joined (λ item. Each IsNamedField (field_of item)) (λ item. Each IsOfBookmark (mark_of item)) IsFine (λ item one other. (one, other)) (all_items doc)
-      (each_part IsNamedField field_of (all_items doc) (each_joined (IsField doc) (λ field. Each IsNameOrNone (names_of_field field)) IsNamedField field_named (all_fields doc) valid.each_field (short doc valid.limits).fields))
-      (each_part IsOfBookmark mark_of (all_items doc)
-      (each_joined (λ mark. IsBookmark doc (mark_name mark)) (λ mark. IsNameOrNone (mark_name mark)) IsOfBookmark (λ mark one other. (one, other)) (flat_map mark_of (all_items doc)) valid.bookmarks (short doc valid.limits).marks))
-
-  what_named : (what : What-F What Item DocNote Par) → Each IsNamedField (fields_in what) → Each IsOfBookmark (marks_in what) → IsNamedWhat what
-  what_named (What-F.Char c) named marks = tt
-  what_named What-F.Tab named marks = tt
-  what_named What-F.Break named marks = tt
-  what_named (What-F.Field field) named marks = named.0
-  what_named (What-F.Note note) named marks = tt
-  what_named (What-F.Mark mark) named marks = (marks.0.0.0, marks.0.1)
-
-  item_named : (item : Item) → IsFine item → IsNamedWhat (what_of item)
-  item_named item is = what_named (what_of item) is.0 is.1
-
-  -- the items of paragraphs and of their notes
-  abbrev AreInner : DocNote → Type 0
-  AreInner note = Each (λ par. Each IsFine (items_of par)) (out-Note note).pars
-
-  pars_fine : Each (HoldsOf IsFine) (body_paragraphs doc)
-  pars_fine = by_paragraphs IsFine doc items_fine
-
-  abbrev IsPlain : DocNote → Type 0
-  IsPlain note = IsNote note × IsNameOrNone (out-Note note).id
-
-  note_named : (note : DocNote) → AreInner note → IsPlain note → IsNamedNote note
-  note_named note fine plain = record {
-    id = plain.1;
-    each_inner = each_joined (λ par. Each IsFine (items_of par)) (λ par. Each (λ item. IsNoNote (what_of item)) (items_of par)) (λ par. Each IsNamedInner (items_of par))
-        (λ par one none. each_joined IsFine (λ item. IsNoNote (what_of item)) IsNamedInner (λ item is no. (item_named item is, no)) (items_of par) one none)
-        (out-Note note).pars fine plain.0.1;
-  }
-
-  par_named : (par : Par) → HoldsOf IsFine par → Each IsPlain (notes_of par) → Each IsNamedItem (items_of par)
-  par_named par fine plain =
-      each_joined IsFine (λ item. Each IsNamedNote (note_of item)) IsNamedItem (λ item is inner. (item_named item is, inner)) (items_of par) fine.0
-      (each_part IsNamedNote note_of (items_of par) (each_joined AreInner IsPlain IsNamedNote note_named (notes_of par) fine.1 plain))
-
-  pars_named : Each (λ par. Each IsNamedItem (items_of par)) (body_paragraphs doc)
-  pars_named =
-      each_joined (HoldsOf IsFine) (λ par. Each IsPlain (notes_of par)) (λ par. Each IsNamedItem (items_of par)) par_named (body_paragraphs doc) pars_fine
-      (each_part IsPlain notes_of (body_paragraphs doc) (each_joined IsNote (λ note. IsNameOrNone (out-Note note).id) IsPlain (λ note one other. (one, other)) (notes doc) valid.each_note (short doc valid.limits).notes))
-
-  heads_named : Each (λ section. IsName section.name) (sections doc)
-  heads_named =
-      each_joined (IsSection doc) (λ section. Each IsNameOrNone (names_of_section section)) (λ section. IsName section.name) (λ section is few. (is.name, few.0)) (sections doc) valid.each_section (short doc valid.limits).sections
-
   -- the names of marks that are met are those of bookmarks
   abbrev Names : Type 0
   Names = List (List ℕ)
@@ -170,12 +96,12 @@ module _ (doc : Document) (valid : IsValid doc) where
   abbrev inner : Thing → Names
   inner = inner_told tell_mark no_head own_name no_field no_head mark_tells 0
 
-  inner_bookmarks : (items : List Item) → Each IsFine items → Each (IsBookmark doc) (flat_map inner (flat_map things_of items))
+  inner_bookmarks : (items : List Item) → Each (IsFine doc valid) items → Each (IsBookmark doc) (flat_map inner (flat_map things_of items))
   inner_bookmarks [] fine = tt
   inner_bookmarks (item ∷ items) fine =
       subst (Each (IsBookmark doc)) (sym (flat_map-append inner (things_of item) (flat_map things_of items)))
       (each_append (IsBookmark doc) (flat_map inner (things_of item)) (flat_map inner (flat_map things_of items)) (by_what (what_of item) fine.0.1) (inner_bookmarks items fine.1)) where
-        by_what : (what : What-F What Item DocNote Par) → Each IsOfBookmark (marks_in what) → Each (IsBookmark doc) (flat_map inner (things_in what))
+        by_what : (what : What-F What Item DocNote Par) → Each (IsOfBookmark doc valid) (marks_in what) → Each (IsBookmark doc) (flat_map inner (things_in what))
         by_what (What-F.Char c) marks = tt
         by_what What-F.Tab marks = tt
         by_what What-F.Break marks = tt
@@ -188,28 +114,28 @@ module _ (doc : Document) (valid : IsValid doc) where
   notes_in _ = []
 
   abbrev IsFineBody : Item → Type 0
-  IsFineBody item = Each IsOfBookmark (mark_of item) × Each AreInner (note_of item)
+  IsFineBody item = Each (IsOfBookmark doc valid) (mark_of item) × Each (AreInner doc valid) (note_of item)
 
   body_bookmarks : (items : List Item) → Each IsFineBody items → Each (IsBookmark doc) (flat_map whole (flat_map things_of items))
   body_bookmarks [] fine = tt
   body_bookmarks (item ∷ items) fine =
       subst (Each (IsBookmark doc)) (sym (flat_map-append whole (things_of item) (flat_map things_of items)))
       (each_append (IsBookmark doc) (flat_map whole (things_of item)) (flat_map whole (flat_map things_of items)) (by_what (what_of item) fine.0.0 fine.0.1) (body_bookmarks items fine.1)) where
-        by_what : (what : What-F What Item DocNote Par) → Each IsOfBookmark (marks_in what) → Each AreInner (notes_in what) → Each (IsBookmark doc) (flat_map whole (things_in what))
+        by_what : (what : What-F What Item DocNote Par) → Each (IsOfBookmark doc valid) (marks_in what) → Each (AreInner doc valid) (notes_in what) → Each (IsBookmark doc) (flat_map whole (things_in what))
         by_what (What-F.Char c) marks held = tt
         by_what What-F.Tab marks held = tt
         by_what What-F.Break marks held = tt
         by_what (What-F.Field field) marks held = tt
         by_what (What-F.Mark mark) marks held = (marks.0.0, tt)
         by_what (What-F.Note note) marks held =
-            subst (Each (IsBookmark doc)) (sym (append-nil (flat_map inner (flat_map things_of (note_items note))))) (inner_bookmarks (note_items note) (each_flat IsFine items_of (out-Note note).pars held.0))
+            subst (Each (IsBookmark doc)) (sym (append-nil (flat_map inner (flat_map things_of (note_items note))))) (inner_bookmarks (note_items note) (each_flat (IsFine doc valid) items_of (out-Note note).pars held.0))
 
   body_fine : Each IsFineBody (body_items doc)
   body_fine =
       each_flat IsFineBody items_of (body_paragraphs doc)
-      (each_also (HoldsOf IsFine) (λ par. Each IsFineBody (items_of par))
-      (λ par is. each_joined IsFine (λ item. Each AreInner (note_of item)) IsFineBody (λ item one other. (one.1, other)) (items_of par) is.0 (each_part AreInner note_of (items_of par) is.1))
-      (body_paragraphs doc) pars_fine)
+      (each_also (HoldsOf (IsFine doc valid)) (λ par. Each IsFineBody (items_of par))
+      (λ par is. each_joined (IsFine doc valid) (λ item. Each (AreInner doc valid) (note_of item)) IsFineBody (λ item one other. (one.1, other)) (items_of par) is.0 (each_part (AreInner doc valid) note_of (items_of par) is.1))
+      (body_paragraphs doc) (pars_fine doc valid))
 
   module _ (met : List Met) (are : AreMet IsMet (flat_map block_things doc.body) met) where
     marks_of_bookmarks : Each (λ mark. IsBookmark doc mark.name) (marks_met met)
@@ -218,25 +144,22 @@ module _ (doc : Document) (valid : IsValid doc) where
         (subst (Each (IsBookmark doc)) (sym (sym (mark_names_met met) ∙ all_body tell_mark no_head own_name no_field no_head mark_tells (λ text mark. refl) (flat_map block_things doc.body) met are ∙ told_items whole (λ name. refl) doc))
         (body_bookmarks (body_items doc) body_fine))
 
-    abbrev kept : Kept
-    kept = kept_of met
-
-    sections_kept : Each (λ section. is_at kept.sections section.place ≡ true) (sections_met met)
+    sections_kept : Each (λ section. is_at (kept_of met).sections section.place ≡ true) (sections_met met)
     sections_kept =
         subst (λ (first_ones : List MetSection). Each (λ (section : MetSection). is_at (map (λ (one : MetSection). one.place) first_ones) section.place ≡ true) (sections_met met))
         (sym (firsts_all (λ (section : MetSection). section.name) (sections_met met) (sections_apart doc met are valid))) (each_at (λ (section : MetSection). section.place) (sections_met met))
 
-    notes_kept : Each (λ note. is_at kept.notes note.place ≡ true) (notes_met met)
+    notes_kept : Each (λ note. is_at (kept_of met).notes note.place ≡ true) (notes_met met)
     notes_kept =
         subst (λ (first_ones : List MetName). Each (λ (note : MetName). is_at (map (λ (one : MetName). one.place) first_ones) note.place ≡ true) (notes_met met))
         (sym (firsts_all (λ (note : MetName). note.name) (notes_met met) (notes_apart doc met are valid))) (each_at (λ (note : MetName). note.place) (notes_met met))
 
-    references_kept : Each (λ field. is_at kept.references field.place ≡ true) (references_met met)
+    references_kept : Each (λ field. is_at (kept_of met).references field.place ≡ true) (references_met met)
     references_kept =
         subst (λ (first_ones : List MetName). Each (λ (field : MetName). is_at (map (λ (one : MetName). one.place) first_ones) field.place ≡ true) (references_met met))
         (sym (firsts_all (λ (field : MetName). field.name) (references_met met) (references_apart doc met are valid))) (each_at (λ (field : MetName). field.place) (references_met met))
 
-    all_marks_kept : Each (λ mark. is_at kept.marks mark.place ≡ true) (marks_met met)
+    all_marks_kept : Each (λ mark. is_at (kept_of met).marks mark.place ≡ true) (marks_met met)
     all_marks_kept =
         subst (λ (some : List MetMark). Each (λ (mark : MetMark). is_at (map (λ (one : MetMark). one.place) some) mark.place ≡ true) (marks_met met))
         (sym (marks_kept met (each_also (λ mark. IsBookmark doc mark.name) (λ mark. IsWhole (seen mark.name (marks_met met))) (λ mark is. bookmark_seen mark.name doc met are is) (marks_met met) marks_of_bookmarks)))
@@ -257,5 +180,5 @@ each_kept kept (Table one ∷ met) sections marks notes references = (tt, each_k
 pub all_kept : (doc : Document) (text : Read) → IsValid doc → Element (placeless text) ≡ named_node (text_element doc) → Each (IsKept (kept_of (met_in text))) (met_in text)
 all_kept doc text valid e =
     let met = met_in text in
-    let are = text_read doc text (pars_named doc valid) (heads_named doc valid) e in
+    let are = text_met doc text valid e in
     each_kept (kept_of met) met (sections_kept doc valid met are) (all_marks_kept doc valid met are) (notes_kept doc valid met are) (references_kept doc valid met are)

@@ -19,9 +19,8 @@ use Rattle.doc_model.specs.Valid.{IsSection, IsValid, refname_of}
 use Rattle.load_model.specs.Met.{Met, MetName, Section, Mark, Note, Reference, Sequence, Variable, Table, named_at, notes_met, references_met, sections_met}
 use Rattle.back_valid.proofs.Lists.{each_also, each_map}
 use Rattle.back_kept.proofs.Apart.{AreApart, hit, once_apart, once_some, pairs_of, some, some_all, some_apart}
-use Rattle.back_kept.proofs.Body.{block_things}
+use Rattle.back_met.specs.Things.{block_things, AreMet, Counted, Headed, IsMet, Marked, Noted, Thing, field_met, if_any, note_items, things_in, things_of}
 use Rattle.back_kept.proofs.Counts.{body_items, count, doc_counted, each_same, notes_are, twice}
-use Rattle.back_kept.proofs.Things.{AreMet, Counted, Headed, IsMet, Marked, Noted, Thing, field_met, if_any, note_items, things_in, things_of}
 use Rattle.back_kept.proofs.Told.{Tells, all_body, body_told, head_in, inner_told, told_heads, told_items}
 
 abbrev Names : Type 0

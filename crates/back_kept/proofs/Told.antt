@@ -19,8 +19,8 @@ use Rattle.doc_model.specs.Reading.{block_paragraphs, body_paragraphs}
 use Rattle.block_facts.proofs.Blocks.{of_blocks, par_block, par_reads, section_block, section_reads}
 use Rattle.load_model.specs.Met.{Met, Note, Section as MetSection, named_at}
 use Rattle.back_valid.proofs.Blocks.{par_sections, section_sections}
-use Rattle.back_kept.proofs.Body.{block_things, things_par, things_section}
-use Rattle.back_kept.proofs.Things.{AreMet, Counted, Headed, IsInner, IsMet, Marked, Noted, Thing, field_met, if_any, mark_at, note_items, things_in, things_of}
+use Rattle.back_met.specs.Things.{block_things, AreMet, Counted, Headed, IsInner, IsMet, Marked, Noted, Thing, field_met, if_any, mark_at, note_items, things_in, things_of}
+use Rattle.back_met.proofs.Blocks.{things_par, things_section}
 
 -- where it is known of each thing
 module _ {X : Type 0} (tell : Met → List X) (told : Thing → List X) (P : Thing → List Met → Type 0) (tells : (thing : Thing) (one : List Met) → P thing one → flat_map tell one ≡ told thing) where

@@ -21,9 +21,10 @@ use Rattle.written_model.specs.Elements.{attribute}
 use Rattle.back_names.specs.Named.{named, named_attribute, placeless}
 use Rattle.back_names.proofs.Parts.{elem_of}
 use Rattle.back_items.proofs.Keys.{spaces_tag}
-use Rattle.back_kept.proofs.Keys.{span_tag}
-use Rattle.back_kept.proofs.Nodes.{AreNodesOf, IsNodeOf, both_of, content_at, content_met, is_of, nodes_met, parted}
-use Rattle.back_kept.proofs.Things.{AreMet, Thing, met_both, met_is, things_in, things_of}
+use Rattle.back_met.proofs.Keys.{span_tag}
+use Rattle.back_met.proofs.Nodes.{AreNodesOf, IsNodeOf, both_of, content_at, content_met, is_of, nodes_met, parted}
+use Rattle.back_met.specs.Things.{AreMet, Thing, things_in, things_of}
+use Rattle.back_met.proofs.Parts.{met_both, met_is}
 
 -- nodes that give the same as others that are written as these
 record IsFlat (here : Where) (ts : List (Node Read)) (ws : List (Node Elem)) : Type 0 where

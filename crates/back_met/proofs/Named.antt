@@ -34,8 +34,9 @@ use Rattle.back_fields.proofs.Keys as field_name
 use Rattle.back_items.proofs.Keys as item_name
 use Rattle.back_values.proofs.Texts.{name_back}
 use Rattle.met_read.specs.Walk.{held}
-use Rattle.back_kept.proofs.Nodes.{IsElement, IsNodeOf, content_met, content_one, element_of}
-use Rattle.back_kept.proofs.Things.{AreMet, Counted, IsInner, Marked, field_met, if_any, mark_at, met_is, met_one, things_in}
+use Rattle.back_met.proofs.Nodes.{IsElement, IsNodeOf, content_met, content_one, element_of}
+use Rattle.back_met.specs.Things.{AreMet, Counted, IsInner, Marked, field_met, if_any, mark_at, things_in}
+use Rattle.back_met.proofs.Parts.{met_is, met_one}
 
 -- the names of a field and of a mark can be read
 abbrev pub IsNamedField : Field → Type 0

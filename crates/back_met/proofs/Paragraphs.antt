@@ -25,8 +25,9 @@ use Rattle.back_names.specs.Named.{named_attribute, tag_named}
 use Rattle.back_paragraphs.proofs.Keys as named
 use Rattle.met_read.specs.Walk.{held}
 use Rattle.met_read.proofs.WalkLemmas.{gives_out, inside_out}
-use Rattle.back_kept.proofs.Nodes.{AreNodesOf, IsElement, IsNodeOf, alone, blocks_met, blocks_one, content_met, element_of, entries_met, entries_one, nodes_met}
-use Rattle.back_kept.proofs.Things.{AreMet, Thing, met_both, met_is, things_of}
+use Rattle.back_met.proofs.Nodes.{AreNodesOf, IsElement, IsNodeOf, alone, blocks_met, blocks_one, content_met, element_of, entries_met, entries_one, nodes_met}
+use Rattle.back_met.specs.Things.{AreMet, Thing, things_of}
+use Rattle.back_met.proofs.Parts.{met_both, met_is}
 
 -- a node that is written as an element without attributes of account
 abbrev element_at : (t : Node Read) (name : List ℕ) (attrs : List Attr) (nodes : List (Node Elem)) (which : Tag) → IsNodeOf t (element name attrs nodes) → tag_named name ≡ which → IsElement t which (map named_attribute attrs) nodes
@@ -67,18 +68,18 @@ module _ (text : ℕ) (sections : List ℕ) where
     inner_of : IsNodeOf inner node
     same : met ≡ blocks_met (here true) (inner ∷ [])
 
-  inner_at : (t : Node Read) (called : List ℕ) (which : Tag) (node : Node Elem) → IsNodeOf t (element called [] (node ∷ [])) → tag_named called ≡ which → (role : Gives → Where → List Met)
+  inner_at : (t : Node Read) (called : List ℕ) (which : Tag) (node : Node Elem) → IsNodeOf t (element called [] (node ∷ [])) → tag_named called ≡ which
       → (met : List Met) → ((one : IsElement t which [] (node ∷ [])) → met ≡ each (λ given. given.blocks) (here true) (held one.found)) → HasInner met node
-  inner_at t called which node of is role met gives =
+  inner_at t called which node of is met gives =
       let one = element_of t called [] (node ∷ []) which [] of is refl in
       let only = alone (out-Element one.found).nodes node one.is.nodes_of in
       record { inner = only.only; inner_of = only.only_of; same = gives one ∙ ap (λ (ts : List (Node Read)). blocks_met (here true) ts) only.only_is }
 
   entry_inner : (item : Bool) (node : Node Elem) (t : Node Read) → IsNodeOf t (entry_element item node) → HasInner (entries_met (here true) (t ∷ [])) node
   entry_inner true node t of =
-      inner_at t (codes "text:list-item") tag.ListItem node of named.item_tag (λ given. given.entry) (entries_met (here true) (t ∷ [])) (λ one. entries_one t tag.ListItem [] (node ∷ []) one (here true))
+      inner_at t (codes "text:list-item") tag.ListItem node of named.item_tag (entries_met (here true) (t ∷ [])) (λ one. entries_one t tag.ListItem [] (node ∷ []) one (here true))
   entry_inner false node t of =
-      inner_at t (codes "text:list-header") tag.ListHeader node of named.header_tag (λ given. given.entry) (entries_met (here true) (t ∷ [])) (λ one. entries_one t tag.ListHeader [] (node ∷ []) one (here true))
+      inner_at t (codes "text:list-header") tag.ListHeader node of named.header_tag (entries_met (here true) (t ∷ [])) (λ one. entries_one t tag.ListHeader [] (node ∷ []) one (here true))
 
   -- the first entry of a list
   record HasEntry (met : List Met) (entry : Node Elem) : Type 0 where
@@ -99,7 +100,7 @@ module _ (text : ℕ) (sections : List ℕ) where
   nested_inner : (deeper : ℕ) (item : Bool) (node : Node Elem) (t : Node Read) → IsNodeOf t (nested_entry deeper (entry_element item node)) → HasInner (entries_met (here true) (t ∷ [])) node
   nested_inner zero item node t of = entry_inner item node t of
   nested_inner (suc deeper) item node t of =
-      let list = inner_at t (codes "text:list-item") tag.ListItem (element (codes "text:list") [] (nested_entry deeper (entry_element item node) ∷ [])) of named.item_tag (λ given. given.entry) (entries_met (here true) (t ∷ []))
+      let list = inner_at t (codes "text:list-item") tag.ListItem (element (codes "text:list") [] (nested_entry deeper (entry_element item node) ∷ [])) of named.item_tag (entries_met (here true) (t ∷ []))
           (λ one. entries_one t tag.ListItem [] (element (codes "text:list") [] (nested_entry deeper (entry_element item node) ∷ []) ∷ []) one (here true)) in
       let entry = list_entry true [] (nested_entry deeper (entry_element item node)) list.inner list.inner_of in
       let rest = nested_inner deeper item node entry.first_node entry.first_of in

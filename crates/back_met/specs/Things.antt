@@ -1,6 +1,8 @@
--- What is met of the things of a document that have names, place by place.
-use Rattle.std.proofs.Common.{◌≡◌, ℕ, List, [], ◌∷◌, ◌++◌, map, refl, sym, ap, ◌∙◌, subst, append_assoc, Option, Some, None}
+-- What is met of the things of a document, in reading order: sections, marks, fields and notes.
+use Rattle.std.specs.Prelude.{◌≡◌, ℕ, List, [], ◌∷◌, ◌++◌, map, Option, Some, None}
 use Rattle.std.specs.List.{flat_map}
+use Rattle.doc_model.specs.declared.block.Block.{Block, fold-Block}
+use Rattle.doc_model.specs.declared.block.Block.TheOpen.{Block-F, Section-F}
 use Rattle.doc_model.specs.declared.field.Field.{Field}
 use Rattle.doc_model.specs.declared.field.Field.TheVariants as fields
 use Rattle.doc_model.specs.declared.paragraph.Item.{Item}
@@ -71,17 +73,12 @@ IsMet (Counted field) met = (place : ℕ) × (met ≡ field_met place field)
 IsMet (Noted note) met = (place : ℕ) × (inner : List Met) × (met ≡ map Note (named_at place (if_any (out-Note note).id)) ++ inner) × AreMet (IsInner place) (flat_map things_of (note_items note)) inner
 IsMet (Headed name) met = (place : ℕ) × (around : List ℕ) × (met ≡ Section (record { place = place; name = name; around = around }) ∷ [])
 
-module _ (P : Thing → List Met → Type 0) where
-  pub met_is : (things : List Thing) (met other : List Met) → met ≡ other → AreMet P things other → AreMet P things met
-  met_is things met other e are = subst (AreMet P things) (sym e) are
+-- the things of a block, in order
+abbrev pub block_things : Block → List Thing
+block_things = fold-Block (List Thing) (List Thing) of_block of_section where
+  of_block : Block-F (List Thing) (List Thing) → List Thing
+  of_block (Block-F.Par par) = flat_map things_of (items_of par)
+  of_block (Block-F.Section things) = things
 
-  pub met_both : (things others : List Thing) (met more : List Met) → AreMet P things met → AreMet P others more → AreMet P (things ++ others) (met ++ more)
-  met_both [] others met more one other = met_is others (met ++ more) more (ap (λ (all : List Met). all ++ more) one) other
-  met_both (thing ∷ things) others met more one other =
-      (one.0, one.1 ++ more, ap (λ (all : List Met). all ++ more) one.2 ∙ append_assoc one.0 one.1 more, one.3, met_both things others one.1 more one.4 other)
-
-  pub met_one : (thing : Thing) (met : List Met) → P thing met → AreMet P (thing ∷ []) met
-  met_one thing met is = (met, [], no_more met, is, refl) where
-    no_more : (met : List Met) → met ≡ met ++ []
-    no_more [] = refl
-    no_more (one ∷ more) = ap (λ (all : List Met). one ∷ all) (no_more more)
+  of_section : Section-F (List Thing) (List Thing) → List Thing
+  of_section section = Headed section.name ∷ flat_map (λ things. things) section.blocks

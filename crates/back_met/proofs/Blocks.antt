@@ -1,4 +1,4 @@
--- What is met of blocks and of a whole text.
+-- What is met of notes, of blocks and of a whole text.
 use Rattle.std.proofs.Common.{◌≡◌, ◌≢◌, ℕ, Bool, true, false, cond, List, [], ◌∷◌, ◌++◌, map, codes, refl, sym, ap, ap₂, ◌∙◌, subst, append-nil, append_assoc, Option, Some, None}
 use Rattle.std.specs.List.{flat_map, AllByRecursion as Each}
 use Rattle.std.specs.Option.{option_and_then}
@@ -47,11 +47,12 @@ use Rattle.back_blocks.proofs.Opened.{element_par, element_section}
 use Rattle.back_valid.proofs.Blocks.{section_sections}
 use Rattle.met_read.specs.Walk.{held}
 use Rattle.met_read.proofs.WalkLemmas.{inside_out}
-use Rattle.back_kept.proofs.Contents.{items_met}
-use Rattle.back_kept.proofs.Named.{IsNamedWhat, IsNoNote, break_is, char_is, field_is, inner_met, mark_is, tab_is}
-use Rattle.back_kept.proofs.Nodes.{AreNodesOf, IsElement, IsNodeOf, blocks_met, blocks_one, content_met, content_one, element_of, is_of, nodes_met, parted}
-use Rattle.back_kept.proofs.Paragraphs.{note_body, par_met, pars_met}
-use Rattle.back_kept.proofs.Things.{AreMet, Counted, Headed, IsInner, IsMet, Marked, Noted, Thing, if_any, met_both, met_is, met_one, note_items, things_in, things_of}
+use Rattle.back_met.proofs.Contents.{items_met}
+use Rattle.back_met.proofs.Named.{IsNamedWhat, IsNoNote, break_is, char_is, field_is, inner_met, mark_is, tab_is}
+use Rattle.back_met.proofs.Nodes.{AreNodesOf, IsElement, IsNodeOf, blocks_met, blocks_one, content_met, content_one, element_of, is_of, nodes_met, parted}
+use Rattle.back_met.proofs.Paragraphs.{note_body, par_met, pars_met}
+use Rattle.back_met.specs.Things.{block_things, AreMet, Counted, Headed, IsInner, IsMet, Marked, Noted, Thing, if_any, note_items, things_in, things_of}
+use Rattle.back_met.proofs.Parts.{met_both, met_is, met_one}
 
 -- the names in a note, and in an item with its note, can be read
 abbrev pub IsNamedInner : Item → Type 0
@@ -117,16 +118,6 @@ par_read sections par fine t of =
     par_met 0 sections note_element IsMet IsNamedItem
     (λ in_list items. items_met note_element IsMet (in_body in_list sections) IsNamedItem (λ item is t of. what_read in_list sections (what_of item) is.0 is.1 t of) items)
     false par fine t of
-
--- the things of a block, in order
-abbrev pub block_things : Block → List Thing
-block_things = fold-Block (List Thing) (List Thing) of_block of_section where
-  of_block : Block-F (List Thing) (List Thing) → List Thing
-  of_block (Block-F.Par par) = flat_map things_of (items_of par)
-  of_block (Block-F.Section things) = things
-
-  of_section : Section-F (List Thing) (List Thing) → List Thing
-  of_section section = Headed section.name ∷ flat_map (λ things. things) section.blocks
 
 pub things_par : (par : Par) → block_things (par_block par) ≡ flat_map things_of (items_of par)
 things_par par = simp fold-roll-Block
