@@ -22,7 +22,7 @@ use Rattle.back_kept.proofs.Apart.{turned}
 use Rattle.back_met.specs.Things.{block_things, AreMet, Counted, Headed, IsMet, Marked, Noted, Thing, field_met, if_any, kind_of, note_items, things_in, things_of}
 use Rattle.back_kept.proofs.Counts.{AnyIn, all_counted, any_in, any_mapped, body_items, count, count_both, each_same, notes_are, twice}
 use Rattle.back_kept.proofs.Marks.{IsWhole, Seen, seen, seen_at, seen_of}
-use Rattle.back_kept.proofs.Told.{Tells, field_told, head_told, inner_told, mark_told, note_told, told_items}
+use Rattle.back_kept.proofs.Told.{Tells, field_told, head_told, inner_told, mark_told, note_told, quiet_field, quiet_id, told_items}
 
 abbrev notes_in : What-F What Item DocNote Par → List DocNote
 notes_in (What-F.Note note) = note ∷ []
@@ -76,22 +76,12 @@ module _ (name : List ℕ) where
   of_mark text mark = cond (bytes_eq name (mark_name mark)) (seen_at (kind_of mark) text ∷ []) []
 
   tells : Tells tell no_head of_mark no_field no_head
-  tells = record { heads = λ place head around. refl; marks = λ place text mark. refl; fields = of_field; ids = of_id } where
-    of_field : (place : ℕ) (field : Field) → flat_map tell (field_met place field) ≡ []
-    of_field place (fields.Sequence called [] format) = refl
-    of_field place (fields.Sequence called (c ∷ cs) format) = refl
-    of_field place (fields.VarSet called value) = refl
-    of_field place (fields.VarGet called) = refl
-    of_field place (fields.Chapter display level) = refl
-    of_field place (fields.PageNumber select adjust format) = refl
-    of_field place (fields.PageCount format) = refl
-    of_field place (fields.BookRef called form) = refl
-    of_field place (fields.SeqRef called form) = refl
-    of_field place (fields.NoteRef called class form) = refl
-
-    of_id : (place : ℕ) (id : List ℕ) → flat_map tell (map Note (named_at place (if_any id))) ≡ []
-    of_id place [] = refl
-    of_id place (c ∷ cs) = refl
+  tells = record {
+    heads = λ place head around. refl;
+    marks = λ place text mark. refl;
+    fields = quiet_field tell (λ one. refl) (λ one. refl) (λ one. refl);
+    ids = quiet_id tell (λ one. refl);
+  }
 
   pub seen_met : (met : List Met) → flat_map tell met ≡ seen name (marks_met met)
   seen_met [] = refl

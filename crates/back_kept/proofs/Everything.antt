@@ -20,7 +20,6 @@ use Rattle.load_model.specs.Left.{firsts}
 use Rattle.load_model.specs.Met.{Kept, Met, MetMark, MetName, MetSection, Section, Mark, Note, Reference, Sequence, Variable, Table, is_at, kept_of, marks_met, met_in, named_at, notes_met, references_met, sections_met}
 use Rattle.written_model.specs.Written.{text_element}
 use Rattle.back_names.specs.Named.{named_node, placeless}
-use Rattle.back_fields.specs.Fit.{IsName, IsNameOrNone}
 use Rattle.back_valid.proofs.Lists.{among, each_also, each_joined, each_mapped, each_part}
 use Rattle.back_valid.proofs.Short.{short}
 use Rattle.back_kept.specs.Kept.{IsKept}
@@ -31,7 +30,7 @@ use Rattle.back_kept.proofs.Counts.{body_items}
 use Rattle.back_kept.proofs.Marks.{IsWhole, marks_kept, seen}
 use Rattle.back_met.proofs.Readable.{AreInner, HoldsOf, IsFine, IsOfBookmark, marks_in, pars_fine, text_met}
 use Rattle.back_kept.proofs.Names.{notes_apart, references_apart, sections_apart}
-use Rattle.back_kept.proofs.Told.{Tells, all_body, body_told, inner_told, told_items}
+use Rattle.back_kept.proofs.Told.{Tells, all_body, body_told, inner_told, quiet_field, quiet_id, told_items}
 
 each_append : {X : Type 0} (P : X → Type 0) (xs ys : List X) → Each P xs → Each P ys → Each P (xs ++ ys)
 each_append P [] ys one other = other
@@ -60,25 +59,12 @@ module _ (doc : Document) (valid : IsValid doc) where
   own_name text mark = mark_name mark ∷ []
 
   mark_tells : Tells tell_mark no_head own_name no_field no_head
-  mark_tells = record { heads = λ place name around. refl; marks = of_mark; fields = of_field; ids = of_id } where
-    of_mark : (place text : ℕ) (mark : DocMark) → own_name text mark ≡ own_name text mark
-    of_mark place text mark = refl
-
-    of_field : (place : ℕ) (field : Field) → flat_map tell_mark (field_met place field) ≡ []
-    of_field place (fields.Sequence name [] format) = refl
-    of_field place (fields.Sequence name (c ∷ cs) format) = refl
-    of_field place (fields.VarSet name value) = refl
-    of_field place (fields.VarGet name) = refl
-    of_field place (fields.Chapter display level) = refl
-    of_field place (fields.PageNumber select adjust format) = refl
-    of_field place (fields.PageCount format) = refl
-    of_field place (fields.BookRef name form) = refl
-    of_field place (fields.SeqRef name form) = refl
-    of_field place (fields.NoteRef name class form) = refl
-
-    of_id : (place : ℕ) (id : List ℕ) → flat_map tell_mark (map Note (named_at place (if_any id))) ≡ []
-    of_id place [] = refl
-    of_id place (c ∷ cs) = refl
+  mark_tells = record {
+    heads = λ place name around. refl;
+    marks = λ place text mark. refl;
+    fields = quiet_field tell_mark (λ one. refl) (λ one. refl) (λ one. refl);
+    ids = quiet_id tell_mark (λ one. refl);
+  }
 
   mark_names_met : (met : List Met) → flat_map tell_mark met ≡ map (λ mark. mark.name) (marks_met met)
   mark_names_met [] = refl

@@ -21,7 +21,7 @@ use Rattle.back_valid.proofs.Lists.{each_also, each_map}
 use Rattle.back_kept.proofs.Apart.{AreApart, hit, once_apart, once_some, pairs_of, some, some_all, some_apart}
 use Rattle.back_met.specs.Things.{block_things, AreMet, Counted, Headed, IsMet, Marked, Noted, Thing, field_met, if_any, note_items, things_in, things_of}
 use Rattle.back_kept.proofs.Counts.{body_items, count, doc_counted, each_same, notes_are, twice}
-use Rattle.back_kept.proofs.Told.{Tells, all_body, body_told, head_in, inner_told, told_heads, told_items}
+use Rattle.back_kept.proofs.Told.{Tells, all_body, body_told, head_in, inner_told, quiet_field, quiet_id, told_heads, told_items}
 
 abbrev Names : Type 0
 Names = List (List ℕ)
@@ -45,22 +45,12 @@ abbrev own_head : List ℕ → Names
 own_head name = name ∷ []
 
 section_tells : Tells tell_section own_head no_mark no_field no_head
-section_tells = record { heads = λ place name around. refl; marks = λ place text mark. refl; fields = of_field; ids = of_id } where
-  of_field : (place : ℕ) (field : Field) → flat_map tell_section (field_met place field) ≡ []
-  of_field place (fields.Sequence name [] format) = refl
-  of_field place (fields.Sequence name (c ∷ cs) format) = refl
-  of_field place (fields.VarSet name value) = refl
-  of_field place (fields.VarGet name) = refl
-  of_field place (fields.Chapter display level) = refl
-  of_field place (fields.PageNumber select adjust format) = refl
-  of_field place (fields.PageCount format) = refl
-  of_field place (fields.BookRef name form) = refl
-  of_field place (fields.SeqRef name form) = refl
-  of_field place (fields.NoteRef name class form) = refl
-
-  of_id : (place : ℕ) (id : List ℕ) → flat_map tell_section (map Note (named_at place (if_any id))) ≡ []
-  of_id place [] = refl
-  of_id place (c ∷ cs) = refl
+section_tells = record {
+  heads = λ place name around. refl;
+  marks = λ place text mark. refl;
+  fields = quiet_field tell_section (λ one. refl) (λ one. refl) (λ one. refl);
+  ids = quiet_id tell_section (λ one. refl);
+}
 
 section_names_met : (met : List Met) → flat_map tell_section met ≡ map (λ section. section.name) (sections_met met)
 section_names_met [] = refl
@@ -90,19 +80,7 @@ tell_note (Note note) = note.name ∷ []
 tell_note _ = []
 
 note_tells : Tells tell_note no_head no_mark no_field some
-note_tells = record { heads = λ place name around. refl; marks = λ place text mark. refl; fields = of_field; ids = of_id } where
-  of_field : (place : ℕ) (field : Field) → flat_map tell_note (field_met place field) ≡ []
-  of_field place (fields.Sequence name [] format) = refl
-  of_field place (fields.Sequence name (c ∷ cs) format) = refl
-  of_field place (fields.VarSet name value) = refl
-  of_field place (fields.VarGet name) = refl
-  of_field place (fields.Chapter display level) = refl
-  of_field place (fields.PageNumber select adjust format) = refl
-  of_field place (fields.PageCount format) = refl
-  of_field place (fields.BookRef name form) = refl
-  of_field place (fields.SeqRef name form) = refl
-  of_field place (fields.NoteRef name class form) = refl
-
+note_tells = record { heads = λ place name around. refl; marks = λ place text mark. refl; fields = quiet_field tell_note (λ one. refl) (λ one. refl) (λ one. refl); ids = of_id } where
   of_id : (place : ℕ) (id : List ℕ) → flat_map tell_note (map Note (named_at place (if_any id))) ≡ some id
   of_id place [] = refl
   of_id place (c ∷ cs) = refl
@@ -167,7 +145,7 @@ module _ (wanted : List ℕ) where
   own_field field = flat_map (hit wanted) (flat_map some (refname_of field))
 
   reference_tells : Tells tell_reference no_head no_mark own_field no_head
-  reference_tells = record { heads = λ place name around. refl; marks = λ place text mark. refl; fields = of_field; ids = of_id } where
+  reference_tells = record { heads = λ place name around. refl; marks = λ place text mark. refl; fields = of_field; ids = quiet_id tell_reference (λ one. refl) } where
     of_field : (place : ℕ) (field : Field) → flat_map tell_reference (field_met place field) ≡ own_field field
     of_field place (fields.Sequence name [] format) = refl
     of_field place (fields.Sequence name (c ∷ cs) format) = refl
@@ -179,10 +157,6 @@ module _ (wanted : List ℕ) where
     of_field place (fields.BookRef name form) = refl
     of_field place (fields.SeqRef name form) = refl
     of_field place (fields.NoteRef name class form) = refl
-
-    of_id : (place : ℕ) (id : List ℕ) → flat_map tell_reference (map Note (named_at place (if_any id))) ≡ []
-    of_id place [] = refl
-    of_id place (c ∷ cs) = refl
 
   reference_names_met : (met : List Met) → flat_map tell_reference met ≡ flat_map (hit wanted) (map (λ field. field.name) (references_met met))
   reference_names_met [] = refl

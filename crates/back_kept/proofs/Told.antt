@@ -8,6 +8,7 @@ use Rattle.doc_model.specs.declared.block.Block.TheOpen.{Section-F}
 use Rattle.doc_model.specs.declared.block.Section.{Section}
 use Rattle.doc_model.specs.declared.document.Document.{Document}
 use Rattle.doc_model.specs.declared.field.Field.{Field}
+use Rattle.doc_model.specs.declared.field.Field.TheVariants as fields
 use Rattle.doc_model.specs.declared.paragraph.Item.{Item}
 use Rattle.doc_model.specs.declared.paragraph.Mark.{Mark as DocMark}
 use Rattle.doc_model.specs.declared.paragraph.Note.{Note as DocNote, out-Note}
@@ -17,7 +18,7 @@ use Rattle.doc_model.specs.declared.paragraph.What.TheOpen.{What-F}
 use Rattle.doc_model.specs.Parts.{SectionHead, block_sections, items_of, sections, what_of}
 use Rattle.doc_model.specs.Reading.{block_paragraphs, body_paragraphs}
 use Rattle.block_facts.proofs.Blocks.{of_blocks, par_block, par_reads, section_block, section_reads}
-use Rattle.load_model.specs.Met.{Met, Note, Section as MetSection, named_at}
+use Rattle.load_model.specs.Met.{Met, MetName, Note, Reference, Sequence, Variable, Section as MetSection, named_at}
 use Rattle.back_valid.proofs.Blocks.{par_sections, section_sections}
 use Rattle.back_met.specs.Things.{block_things, AreMet, Counted, Headed, IsInner, IsMet, Marked, Noted, Thing, field_met, if_any, mark_at, note_items, things_in, things_of}
 use Rattle.back_met.proofs.Blocks.{things_par, things_section}
@@ -35,6 +36,25 @@ pub record Tells {X : Type 0} (tell : Met → List X) (of_head : List ℕ → Li
   pub marks : (place text : ℕ) (mark : DocMark) → tell (mark_at place text mark) ≡ of_mark text mark
   pub fields : (place : ℕ) (field : Field) → flat_map tell (field_met place field) ≡ of_field field
   pub ids : (place : ℕ) (id : List ℕ) → flat_map tell (map Note (named_at place (if_any id))) ≡ of_id id
+
+-- of fields and notes nothing is told where nothing is told of what has a name in them
+pub quiet_field : {X : Type 0} (tell : Met → List X) → ((one : MetName) → tell (Reference one) ≡ []) → ((one : MetName) → tell (Sequence one) ≡ []) → ((one : MetName) → tell (Variable one) ≡ [])
+    → (place : ℕ) (field : Field) → flat_map tell (field_met place field) ≡ []
+quiet_field tell no_reference no_sequence no_variable place (fields.Sequence name [] format) = ap (λ (a : List _). a ++ []) (no_sequence (record { place = place; name = name }))
+quiet_field tell no_reference no_sequence no_variable place (fields.Sequence name (c ∷ cs) format) =
+    ap₂ (λ (a b : List _). a ++ (b ++ [])) (no_reference (record { place = place; name = c ∷ cs })) (no_sequence (record { place = place; name = name }))
+quiet_field tell no_reference no_sequence no_variable place (fields.VarSet name value) = ap (λ (a : List _). a ++ []) (no_variable (record { place = place; name = name }))
+quiet_field tell no_reference no_sequence no_variable place (fields.VarGet name) = ap (λ (a : List _). a ++ []) (no_variable (record { place = place; name = name }))
+quiet_field tell no_reference no_sequence no_variable place (fields.Chapter display level) = refl
+quiet_field tell no_reference no_sequence no_variable place (fields.PageNumber select adjust format) = refl
+quiet_field tell no_reference no_sequence no_variable place (fields.PageCount format) = refl
+quiet_field tell no_reference no_sequence no_variable place (fields.BookRef name form) = refl
+quiet_field tell no_reference no_sequence no_variable place (fields.SeqRef name form) = refl
+quiet_field tell no_reference no_sequence no_variable place (fields.NoteRef name class form) = refl
+
+pub quiet_id : {X : Type 0} (tell : Met → List X) → ((one : MetName) → tell (Note one) ≡ []) → (place : ℕ) (id : List ℕ) → flat_map tell (map Note (named_at place (if_any id))) ≡ []
+quiet_id tell none place [] = refl
+quiet_id tell none place (c ∷ cs) = ap (λ (a : List _). a ++ []) (none (record { place = place; name = c ∷ cs }))
 
 module _ {X : Type 0} (tell : Met → List X) (of_head : List ℕ → List X) (of_mark : ℕ → DocMark → List X) (of_field : Field → List X) (of_id : List ℕ → List X) (tells : Tells tell of_head of_mark of_field of_id) where
   abbrev pub inner_told : ℕ → Thing → List X
