@@ -1,26 +1,25 @@
 -- The marks of a bookmark that are met are a point, or both ends in one text.
-use Rattle.std.proofs.Common.{◌≡◌, ◌≢◌, ◌⊎◌, inl, inr, ◌≤◌, ℕ, ◌+◌, Bool, true, false, cond, List, [], ◌∷◌, ◌++◌, map, length, refl, sym, ap, ap₂, ◌∙◌, subst, arith, append-nil, bytes_eq, length-append}
+use Rattle.std.proofs.Common.{◌≡◌, inl, inr, ◌≤◌, ℕ, ◌+◌, Bool, true, false, cond, List, [], ◌∷◌, ◌++◌, map, length, refl, sym, ap, ap₂, ◌∙◌, subst, arith, append-nil, bytes_eq, length-append}
 use Rattle.std.specs.List.{flat_map, filter, AllByRecursion as Each}
 use Rattle.std.proofs.lemmas.Grind.{flat_map-append}
 use Rattle.std.proofs.lemmas.List.{map-append}
 use Rattle.doc_model.specs.declared.document.Document.{Document}
 use Rattle.doc_model.specs.declared.field.Field.{Field}
-use Rattle.doc_model.specs.declared.field.Field.TheVariants as fields
 use Rattle.doc_model.specs.declared.paragraph.Item.{Item}
 use Rattle.doc_model.specs.declared.paragraph.Mark.{Mark as DocMark}
 use Rattle.doc_model.specs.declared.paragraph.Mark.TheVariants as mark
-use Rattle.doc_model.specs.declared.paragraph.Note.{Note as DocNote, out-Note}
+use Rattle.doc_model.specs.declared.paragraph.Note.{Note as DocNote}
 use Rattle.doc_model.specs.declared.paragraph.Par.{Par}
 use Rattle.doc_model.specs.declared.paragraph.What.{What}
 use Rattle.doc_model.specs.declared.paragraph.What.TheOpen.{What-F}
 use Rattle.doc_model.specs.Parts.{all_items, mark_name, mark_of, notes, what_of}
 use Rattle.doc_model.specs.Reading.{note_of}
 use Rattle.doc_model.specs.Valid.{AreMarksOf, IsBookmark, marks_named}
-use Rattle.load_model.specs.Met.{Met, MetMark, Whole, Start, End, Section, Mark, Note, Reference, Sequence, Variable, Table, marks_met, named_at}
+use Rattle.load_model.specs.Met.{Met, Section, Mark, Note, Reference, Sequence, Variable, Table, marks_met}
 use Rattle.back_met.proofs.Readable.{marks_in}
 use Rattle.back_kept.proofs.Apart.{turned}
-use Rattle.back_met.specs.Things.{block_things, AreMet, Counted, Headed, IsMet, Marked, Noted, Thing, field_met, if_any, kind_of, note_items, things_in, things_of}
-use Rattle.back_kept.proofs.Counts.{AnyIn, all_counted, any_in, any_mapped, body_items, count, count_both, each_same, notes_are, twice}
+use Rattle.back_met.specs.Things.{block_things, AreMet, Counted, Headed, IsMet, Marked, Noted, Thing, kind_of, note_items, things_in, things_of}
+use Rattle.back_kept.proofs.Counts.{AnyIn, all_counted, any_in, any_mapped, body_items, count, each_same, notes_are, twice}
 use Rattle.back_kept.proofs.Marks.{IsWhole, Seen, seen, seen_at, seen_of}
 use Rattle.back_kept.proofs.Told.{Tells, field_told, head_told, inner_told, mark_told, note_told, quiet_field, quiet_id, told_items}
 
@@ -118,13 +117,16 @@ module _ (name : List ℕ) where
       ∙ sym (ap (map (at_text text)) (flat_map-append own_mark (mark_of item) (flat_map mark_of items)) ∙ map-append (at_text text) (flat_map own_mark (mark_of item)) (named_marks items))
 
   whole_of : (text : ℕ) (marks : List DocMark) → AreMarksOf name marks → IsWhole (map (at_text text) marks)
-  whole_of text marks are = (text, elim are [
-    | inl e ↦ inl (ap (map (at_text text)) e)
-    | inr more ↦ elim more [
-      | inl e ↦ inr (inl (ap (map (at_text text)) e))
-      | inr e ↦ inr (inr (ap (map (at_text text)) e))
-    ]
-  ])
+  whole_of text marks are = (
+    text,
+    elim are [
+      | inl e ↦ inl (ap (map (at_text text)) e)
+      | inr more ↦ elim more [
+        | inl e ↦ inr (inl (ap (map (at_text text)) e))
+        | inr e ↦ inr (inr (ap (map (at_text text)) e))
+      ]
+    ],
+  )
 
   -- a point weighs as much as both ends
   abbrev weight : DocMark → List DocMark

@@ -1,6 +1,6 @@
 -- What the items of a document have, in reading order and paragraph by paragraph.
-use Rattle.std.proofs.Common.{◌≡◌, ◌⊎◌, inl, inr, ◌<◌, ◌≤◌, ℕ, ◌+◌, zero, suc, List, [], ◌∷◌, ◌++◌, map, length, refl, sym, ap, ap₂, ◌∙◌, subst, arith, append-nil, slice_index_or, length-append}
-use Rattle.std.specs.List.{flat_map, Any, AllByRecursion as Each}
+use Rattle.std.proofs.Common.{◌≡◌, ◌⊎◌, inl, inr, ◌<◌, ℕ, ◌+◌, zero, suc, List, [], ◌∷◌, ◌++◌, map, length, refl, sym, ap, ap₂, ◌∙◌, subst, arith, append-nil, slice_index_or, length-append}
+use Rattle.std.specs.List.{flat_map, Any}
 use Rattle.std.proofs.lemmas.Grind.{flat_map-append}
 use Rattle.doc_model.specs.declared.document.Document.{Document}
 use Rattle.doc_model.specs.declared.field.Field.{Field}
@@ -11,9 +11,8 @@ use Rattle.doc_model.specs.declared.paragraph.Par.{Par}
 use Rattle.doc_model.specs.declared.paragraph.What.{What}
 use Rattle.doc_model.specs.declared.paragraph.What.TheOpen.{What-F}
 use Rattle.doc_model.specs.Parts.{all_items, items_of, notes, what_of}
-use Rattle.doc_model.specs.Reading.{body_paragraphs, note_of, notes_of, paragraphs, with_notes}
-use Rattle.back_valid.proofs.Lists.{each_also, each_part}
-use Rattle.back_met.specs.Things.{Counted, Headed, Marked, Noted, Thing, note_items, things_in, things_of}
+use Rattle.doc_model.specs.Reading.{body_paragraphs, note_of, notes_of, with_notes}
+use Rattle.back_met.specs.Things.{Counted, Marked, Noted, Thing, note_items, things_in, things_of}
 
 pub twice : {X Y Z : Type 0} (g : Y → List Z) (f : X → List Y) (xs : List X) → flat_map g (flat_map f xs) ≡ flat_map (λ x. flat_map g (f x)) xs
 twice g f [] = refl
@@ -41,12 +40,12 @@ pars_counted f (par ∷ pars) =
     let inner = flat_map pars_in (notes_of par) in
     let rest = flat_map with_notes pars in
     let whole : count f (flat_map items_of ((par ∷ inner) ++ rest)) ≡ count f (flat_map items_of (par ∷ inner)) + count f (flat_map items_of rest) =
-        ap (count f) (flat_map-append items_of (par ∷ inner) rest) ∙ count_both f (flat_map items_of (par ∷ inner)) (flat_map items_of rest) in
+    ap (count f) (flat_map-append items_of (par ∷ inner) rest) ∙ count_both f (flat_map items_of (par ∷ inner)) (flat_map items_of rest) in
     let first : count f (items_of par ++ flat_map items_of inner) ≡ count f (items_of par) + count f (flat_map items_of inner) = count_both f (items_of par) (flat_map items_of inner) in
     let held : count f (flat_map items_of inner) ≡ count f (flat_map note_items (notes_of par)) = ap (count f) (twice items_of pars_in (notes_of par)) in
     let bodies : count f (items_of par ++ flat_map items_of pars) ≡ count f (items_of par) + count f (flat_map items_of pars) = count_both f (items_of par) (flat_map items_of pars) in
     let both : count f (flat_map note_items (notes_of par ++ flat_map notes_of pars)) ≡ count f (flat_map note_items (notes_of par)) + count f (flat_map note_items (flat_map notes_of pars)) =
-        ap (count f) (flat_map-append note_items (notes_of par) (flat_map notes_of pars)) ∙ count_both f (flat_map note_items (notes_of par)) (flat_map note_items (flat_map notes_of pars)) in
+    ap (count f) (flat_map-append note_items (notes_of par) (flat_map notes_of pars)) ∙ count_both f (flat_map note_items (notes_of par)) (flat_map note_items (flat_map notes_of pars)) in
     let more = pars_counted f pars in
     omega (arith, whole, first, held, bodies, both, more)
 
@@ -77,7 +76,7 @@ module _ {X : Type 0} (body inner : Thing → List X) (of_mark : (mark : DocMark
   in_note note =
       let none : length (inner (Noted note) ++ []) ≡ 0 = ap (λ (xs : List X). length (xs ++ [])) (no_inner note) in
       let same : length (body (Noted note) ++ []) ≡ count own (note_items note ++ []) =
-          ap length (append-nil (body (Noted note)) ∙ of_note note ∙ twice inner things_of (note_items note)) ∙ ap (count own) (sym (append-nil (note_items note))) in
+      ap length (append-nil (body (Noted note)) ∙ of_note note ∙ twice inner things_of (note_items note)) ∙ ap (count own) (sym (append-nil (note_items note))) in
       omega (arith, none, same)
 
   what_counted : (what : What-F What Item DocNote Par) → length (flat_map body (things_in what)) ≡ length (flat_map inner (things_in what)) + count own (flat_map note_items (notes_in what))
@@ -92,12 +91,12 @@ module _ {X : Type 0} (body inner : Thing → List X) (of_mark : (mark : DocMark
   items_counted [] = refl
   items_counted (item ∷ items) =
       let whole : length (flat_map body (things_of item ++ flat_map things_of items)) ≡ length (flat_map body (things_of item)) + length (flat_map body (flat_map things_of items)) =
-          ap length (flat_map-append body (things_of item) (flat_map things_of items)) ∙ length-append (flat_map body (things_of item)) (flat_map body (flat_map things_of items)) in
+      ap length (flat_map-append body (things_of item) (flat_map things_of items)) ∙ length-append (flat_map body (things_of item)) (flat_map body (flat_map things_of items)) in
       let first = what_counted (what_of item) in
       let rest = items_counted items in
       let owns : length (own item ++ flat_map own items) ≡ length (own item) + count own items = length-append (own item) (flat_map own items) in
       let both : count own (flat_map note_items (note_of item ++ flat_map note_of items)) ≡ count own (flat_map note_items (note_of item)) + count own (flat_map note_items (flat_map note_of items)) =
-          ap (count own) (flat_map-append note_items (note_of item) (flat_map note_of items)) ∙ count_both own (flat_map note_items (note_of item)) (flat_map note_items (flat_map note_of items)) in
+      ap (count own) (flat_map-append note_items (note_of item) (flat_map note_of items)) ∙ count_both own (flat_map note_items (note_of item)) (flat_map note_items (flat_map note_of items)) in
       omega (arith, whole, first, rest, owns, both)
 
   pub doc_counted : (doc : Document) → length (flat_map body (flat_map things_of (body_items doc))) ≡ count own (all_items doc)

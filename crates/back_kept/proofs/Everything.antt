@@ -1,30 +1,27 @@
 -- In the text of a written valid document everything that is met is kept.
-use Rattle.std.proofs.Common.{◌≡◌, ◌≢◌, ℕ, true, List, [], ◌∷◌, ◌++◌, map, refl, sym, ap, ap₂, ◌∙◌, subst, append-nil}
+use Rattle.std.proofs.Common.{◌≡◌, ℕ, true, List, [], ◌∷◌, ◌++◌, map, refl, sym, ap, ◌∙◌, subst, append-nil}
 use Rattle.std.specs.List.{flat_map, AllByRecursion as Each}
 use Rattle.std.proofs.lemmas.Grind.{flat_map-append}
 use Rattle.markup_nodes.specs.Node.{Element}
 use Rattle.doc_model.specs.declared.document.Document.{Document}
 use Rattle.doc_model.specs.declared.field.Field.{Field}
-use Rattle.doc_model.specs.declared.field.Field.TheVariants as fields
 use Rattle.doc_model.specs.declared.paragraph.Item.{Item}
 use Rattle.doc_model.specs.declared.paragraph.Mark.{Mark as DocMark}
 use Rattle.doc_model.specs.declared.paragraph.Note.{Note as DocNote, out-Note}
 use Rattle.doc_model.specs.declared.paragraph.Par.{Par}
 use Rattle.doc_model.specs.declared.paragraph.What.{What}
 use Rattle.doc_model.specs.declared.paragraph.What.TheOpen.{What-F}
-use Rattle.doc_model.specs.Parts.{SectionHead, all_fields, all_items, field_of, items_of, mark_name, mark_of, names_of_field, names_of_section, notes, sections, what_of}
-use Rattle.doc_model.specs.Reading.{body_paragraphs, note_of, notes_of}
-use Rattle.doc_model.specs.Valid.{IsBookmark, IsField, IsNote, IsSection, IsValid}
+use Rattle.doc_model.specs.Parts.{items_of, mark_name, mark_of, notes, sections, what_of}
+use Rattle.doc_model.specs.Reading.{body_paragraphs, note_of}
+use Rattle.doc_model.specs.Valid.{IsBookmark, IsValid}
 use Rattle.load_model.specs.declared.element.Element.{Element as Read}
-use Rattle.load_model.specs.Left.{firsts}
-use Rattle.load_model.specs.Met.{Kept, Met, MetMark, MetName, MetSection, Section, Mark, Note, Reference, Sequence, Variable, Table, is_at, kept_of, marks_met, met_in, named_at, notes_met, references_met, sections_met}
+use Rattle.load_model.specs.Met.{Kept, Met, MetMark, MetName, MetSection, Section, Mark, Note, Reference, Sequence, Variable, Table, is_at, kept_of, marks_met, met_in, notes_met, references_met, sections_met}
 use Rattle.written_model.specs.Written.{text_element}
 use Rattle.back_names.specs.Named.{named_node, placeless}
-use Rattle.back_valid.proofs.Lists.{among, each_also, each_joined, each_mapped, each_part}
-use Rattle.back_valid.proofs.Short.{short}
+use Rattle.back_valid.proofs.Lists.{each_also, each_joined, each_mapped, each_part}
 use Rattle.back_kept.specs.Kept.{IsKept}
 use Rattle.back_kept.proofs.Apart.{each_at, firsts_all}
-use Rattle.back_met.specs.Things.{block_things, AreMet, Counted, Headed, IsMet, Marked, Noted, Thing, field_met, if_any, note_items, things_in, things_of}
+use Rattle.back_met.specs.Things.{block_things, AreMet, IsMet, Thing, note_items, things_in, things_of}
 use Rattle.back_kept.proofs.Bookmarks.{bookmark_seen}
 use Rattle.back_kept.proofs.Counts.{body_items}
 use Rattle.back_kept.proofs.Marks.{IsWhole, marks_kept, seen}

@@ -1,6 +1,6 @@
 -- The names of sections, notes and reference names that are met are those of the document.
-use Rattle.std.proofs.Common.{◌≡◌, ◌≢◌, ◌≤◌, ℕ, Bool, true, false, cond, List, [], ◌∷◌, ◌++◌, map, length, refl, sym, ap, ap₂, ◌∙◌, subst, arith, append-nil, bytes_eq}
-use Rattle.std.specs.List.{flat_map, AllByRecursion as Each}
+use Rattle.std.proofs.Common.{◌≡◌, ◌≢◌, ◌≤◌, ℕ, List, [], ◌∷◌, ◌++◌, map, length, refl, sym, ap, ap₂, ◌∙◌, subst, append-nil}
+use Rattle.std.specs.List.{flat_map}
 use Rattle.std.proofs.lemmas.Grind.{flat_map-append}
 use Rattle.std.proofs.lemmas.List.{map-append}
 use Rattle.std.proofs.lemmas.List.Folds.{flat_map-map}
@@ -16,11 +16,11 @@ use Rattle.doc_model.specs.declared.paragraph.What.TheOpen.{What-F}
 use Rattle.doc_model.specs.Parts.{all_fields, all_items, field_of, notes, sections, what_of}
 use Rattle.doc_model.specs.Reading.{note_of}
 use Rattle.doc_model.specs.Valid.{IsSection, IsValid, refname_of}
-use Rattle.load_model.specs.Met.{Met, MetName, Section, Mark, Note, Reference, Sequence, Variable, Table, named_at, notes_met, references_met, sections_met}
+use Rattle.load_model.specs.Met.{Met, Section, Mark, Note, Reference, Sequence, Variable, Table, named_at, notes_met, references_met, sections_met}
 use Rattle.back_valid.proofs.Lists.{each_also, each_map}
 use Rattle.back_kept.proofs.Apart.{AreApart, hit, once_apart, once_some, pairs_of, some, some_all, some_apart}
 use Rattle.back_met.specs.Things.{block_things, AreMet, Counted, Headed, IsMet, Marked, Noted, Thing, field_met, if_any, note_items, things_in, things_of}
-use Rattle.back_kept.proofs.Counts.{body_items, count, doc_counted, each_same, notes_are, twice}
+use Rattle.back_kept.proofs.Counts.{body_items, doc_counted, each_same, notes_are, twice}
 use Rattle.back_kept.proofs.Told.{Tells, all_body, body_told, head_in, inner_told, quiet_field, quiet_id, told_heads, told_items}
 
 abbrev Names : Type 0

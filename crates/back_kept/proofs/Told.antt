@@ -1,5 +1,5 @@
 -- What is told of what is met is what is told of the things of the document.
-use Rattle.std.proofs.Common.{◌≡◌, ℕ, Bool, true, false, cond, List, [], ◌∷◌, ◌++◌, map, refl, sym, ap, ap₂, ◌∙◌, append-nil}
+use Rattle.std.proofs.Common.{◌≡◌, ℕ, List, [], ◌∷◌, ◌++◌, map, refl, sym, ap, ap₂, ◌∙◌, append-nil}
 use Rattle.std.specs.List.{flat_map, AllByRecursion as Each}
 use Rattle.std.proofs.lemmas.Grind.{flat_map-append}
 use Rattle.std.proofs.lemmas.List.{map-append}
@@ -74,9 +74,11 @@ module _ {X : Type 0} (tell : Met → List X) (of_head : List ℕ → List X) (o
 
   -- of things that aren't notes the same is told wherever they stand
   pub note_told : (note : DocNote) (one : List Met) → IsMet (Noted note) one → (text : ℕ) × (flat_map tell one ≡ of_id (out-Note note).id ++ flat_map (inner_told text) (flat_map things_of (note_items note)))
-  note_told note one is =
-      (is.0, ap (flat_map tell) is.2 ∙ flat_map-append tell (map Note (named_at is.0 (if_any (out-Note note).id))) is.1
-      ∙ ap₂ (λ (a b : List X). a ++ b) (tells.ids is.0 (out-Note note).id) (all_inner is.0 (flat_map things_of (note_items note)) is.1 is.3))
+  note_told note one is = (
+    is.0,
+    ap (flat_map tell) is.2 ∙ flat_map-append tell (map Note (named_at is.0 (if_any (out-Note note).id))) is.1
+        ∙ ap₂ (λ (a b : List X). a ++ b) (tells.ids is.0 (out-Note note).id) (all_inner is.0 (flat_map things_of (note_items note)) is.1 is.3),
+  )
 
   pub mark_told : (mark : DocMark) (one : List Met) → IsMet (Marked mark) one → flat_map tell one ≡ of_mark 0 mark
   mark_told mark one is = ap (flat_map tell) is.1 ∙ append-nil (tell (mark_at is.0 0 mark)) ∙ tells.marks is.0 0 mark

@@ -4,4 +4,4 @@
 
 mod laws;
 
-pub use laws::{what_is_met_is_kept};
+pub use laws::what_is_met_is_kept;

@@ -1,13 +1,13 @@
 -- What is met of notes, of blocks and of a whole text.
-use Rattle.std.proofs.Common.{◌≡◌, ◌≢◌, ℕ, Bool, true, false, cond, List, [], ◌∷◌, ◌++◌, map, codes, refl, sym, ap, ap₂, ◌∙◌, subst, append-nil, append_assoc, Option, Some, None}
+use Rattle.std.proofs.Common.{◌≡◌, ℕ, Bool, false, List, [], ◌∷◌, ◌++◌, map, codes, refl, sym, ap, ap₂, ◌∙◌, subst, append-nil, append_assoc, Option, Some, None}
 use Rattle.std.specs.List.{flat_map, AllByRecursion as Each}
 use Rattle.std.specs.Option.{option_and_then}
 use Rattle.std.proofs.lemmas.List.Folds.{flat_map-map}
 use Rattle.markup_nodes.specs.declared.words.Attr.{Attr}
 use Rattle.markup_nodes.specs.declared.tree.Elem.{Elem}
-use Rattle.markup_nodes.specs.Node.{Node, Element, Char}
-use Rattle.doc_model.specs.declared.block.Block.{Block, fold-Block}
-use Rattle.doc_model.specs.declared.block.Block.TheOpen.{Block-F, Section-F}
+use Rattle.markup_nodes.specs.Node.{Node, Element}
+use Rattle.doc_model.specs.declared.block.Block.{Block}
+use Rattle.doc_model.specs.declared.block.Block.TheOpen.{Section-F}
 use Rattle.doc_model.specs.declared.block.Block.TheFolds.{fold-roll-Block, fold-roll-Section}
 use Rattle.doc_model.specs.declared.block.Section.{Section}
 use Rattle.doc_model.specs.declared.block.SectionSource.{SectionSource}
@@ -25,7 +25,7 @@ use Rattle.load_model.specs.declared.names.Tag.{Tag}
 use Rattle.load_model.specs.declared.names.Tag.TheVariants as tag
 use Rattle.load_model.specs.declared.element.Attribute.{Attribute}
 use Rattle.load_model.specs.declared.element.Element.{Element as Read, out-Element}
-use Rattle.load_model.specs.Met.{Gives, Met, Note, Section as MetSection, Where, each, first_given, in_blocks, in_note, met_in, named_at, note_met, section_met}
+use Rattle.load_model.specs.Met.{Gives, Met, Note, Section as MetSection, Where, each, in_blocks, in_note, met_in, named_at, section_met}
 use Rattle.load_model.specs.Values as value
 use Rattle.load_model.specs.Values.{stated}
 use Rattle.written_model.specs.Blocks.{block_element, note_element, paragraph, source_element}
@@ -49,7 +49,7 @@ use Rattle.met_read.specs.Walk.{held}
 use Rattle.met_read.proofs.WalkLemmas.{inside_out}
 use Rattle.back_met.proofs.Contents.{items_met}
 use Rattle.back_met.proofs.Named.{IsNamedWhat, IsNoNote, break_is, char_is, field_is, inner_met, mark_is, tab_is}
-use Rattle.back_met.proofs.Nodes.{AreNodesOf, IsElement, IsNodeOf, blocks_met, blocks_one, content_met, content_one, element_of, is_of, nodes_met, parted}
+use Rattle.back_met.proofs.Nodes.{AreNodesOf, IsNodeOf, blocks_met, blocks_one, content_met, content_one, element_of, is_of, nodes_met, parted}
 use Rattle.back_met.proofs.Paragraphs.{note_body, par_met, pars_met}
 use Rattle.back_met.specs.Things.{block_things, AreMet, Counted, Headed, IsInner, IsMet, Marked, Noted, Thing, if_any, note_items, things_in, things_of}
 use Rattle.back_met.proofs.Parts.{met_both, met_is, met_one}
@@ -95,14 +95,16 @@ note_read in_list sections note is t of =
     let nodes = empty_element (codes "text:note-citation") [] ∷ element (codes "text:note-body") [] inner ∷ [] in
     let attributes = at_unless key.Id x.id (at key.NoteClass (class_text x.class) ∷ []) in
     let one = element_of t (codes "text:note") (unless_empty (codes "text:id") x.id ++ attribute (codes "text:note-class") (class_text x.class) ∷ []) nodes tag.Note attributes of par_name.note_tag
-        (named_unless (codes "text:id") x.id key.Id (attribute (codes "text:note-class") (class_text x.class) ∷ []) (at key.NoteClass (class_text x.class) ∷ []) par_name.id_key
-        (named_first (codes "text:note-class") (class_text x.class) key.NoteClass [] [] field_name.note_class_key refl)) in
+    (named_unless (codes "text:id") x.id key.Id (attribute (codes "text:note-class") (class_text x.class) ∷ []) (at key.NoteClass (class_text x.class) ∷ []) par_name.id_key
+    (named_first (codes "text:note-class") (class_text x.class) key.NoteClass [] [] field_name.note_class_key refl)) in
     let place = (out-Element one.found).place in
-    let body = note_body (out-Element one.found).nodes inner (in_note place) one.is.nodes_of in
-    (place, blocks_met (in_note place) body.body,
-    content_one t tag.Note attributes nodes one (in_body in_list sections)
-    ∙ ap₂ (λ (id : Option (List ℕ)) (held_met : List Met). map Note (named_at place id) ++ held_met) (id_stated x.id (class_text x.class) is.id) body.body_same,
-    inner_read place note is body.body body.body_of)
+    let body = note_body (out-Element one.found).nodes inner (in_note place) one.is.nodes_of in (
+      place,
+      blocks_met (in_note place) body.body,
+      content_one t tag.Note attributes nodes one (in_body in_list sections)
+          ∙ ap₂ (λ (id : Option (List ℕ)) (held_met : List Met). map Note (named_at place id) ++ held_met) (id_stated x.id (class_text x.class) is.id) body.body_same,
+      inner_read place note is body.body body.body_of,
+    )
 
 what_read : (in_list : Bool) (sections : List ℕ) (what : What-F What Item DocNote Par) → IsNamedWhat what → Each IsNamedNote (notes_in what) → (t : Node Read) → IsNodeOf t (what_node note_element what)
     → AreMet IsMet (things_in what) (content_met (in_body in_list sections) (t ∷ []))
@@ -213,14 +215,16 @@ module _ (x : Section-F Block Section) where
       let within = sections ++ place ∷ [] in
       let heads = subst (Each (λ (section : SectionHead). IsName section.name)) (section_sections x) is.1 in
       let pars = subst (Each (λ par. Each IsNamedItem (items_of par))) (section_reads x) is.0 in
-      subst (λ (things : List Thing). AreMet IsMet things (blocks_met (in_body false sections) (t ∷ []))) (sym (things_section x))
-      (MetSection (record { place = place; name = x.name; around = sections }) ∷ [], blocks_met (in_body false within) parts.behind,
-      blocks_one t tag.Section attributes nodes one (in_body false sections) ∙ ap (λ (name : Option (List ℕ)). section_met place name (held one.found) (in_body false sections)) (name_stated heads.0)
-      ∙ ap (λ (more : List Met). MetSection (record { place = place; name = x.name; around = sections }) ∷ more)
-      (ap (blocks_met (in_body false within)) parts.both ∙ nodes_met (λ given. given.blocks) (in_body false within) parts.front parts.behind
-      ∙ ap (λ (front : List Met). front ++ blocks_met (in_body false within) parts.behind) (source_met (in_body false within) x.source parts.front parts.front_of)),
-      (place, sections, refl),
-      blocks_read x.blocks each within pars heads.1 parts.behind parts.behind_of)
+      subst (λ (things : List Thing). AreMet IsMet things (blocks_met (in_body false sections) (t ∷ []))) (sym (things_section x)) (
+        MetSection (record { place = place; name = x.name; around = sections }) ∷ [],
+        blocks_met (in_body false within) parts.behind,
+        blocks_one t tag.Section attributes nodes one (in_body false sections) ∙ ap (λ (name : Option (List ℕ)). section_met place name (held one.found) (in_body false sections)) (name_stated heads.0)
+            ∙ ap (λ (more : List Met). MetSection (record { place = place; name = x.name; around = sections }) ∷ more)
+            (ap (blocks_met (in_body false within)) parts.both ∙ nodes_met (λ given. given.blocks) (in_body false within) parts.front parts.behind
+            ∙ ap (λ (front : List Met). front ++ blocks_met (in_body false within) parts.behind) (source_met (in_body false within) x.source parts.front parts.front_of)),
+        (place, sections, refl),
+        blocks_read x.blocks each within pars heads.1 parts.behind parts.behind_of,
+      )
 
 -- the whole text
 pub text_read : (doc : Document) (text : Read) → Each (λ par. Each IsNamedItem (items_of par)) (body_paragraphs doc) → Each (λ section. IsName section.name) (sections doc) → Element (placeless text) ≡ named_node (text_element doc)

@@ -2,7 +2,6 @@
 use Rattle.std.proofs.Common.{◌≡◌, ℕ, ◌+◌, ◌==◌, ◌&&◌, not, zero, suc, Bool, true, false, cond, List, [], ◌∷◌, ◌++◌, map, codes, decimal, refl, sym, ap, ap₂, ◌∙◌, subst, append-nil, bytes_eq, Option, Some, None}
 use Rattle.std.specs.Cmp.Lexicographic.{pointwise}
 use Rattle.std.specs.List.{flat_map, AllByRecursion as Each}
-use Rattle.std.proofs.lemmas.List.{map-append}
 use Rattle.markup_nodes.specs.declared.words.Attr.{Attr}
 use Rattle.markup_nodes.specs.declared.tree.Elem.{Elem}
 use Rattle.markup_nodes.specs.Node.{Node, Element, Char}
@@ -14,7 +13,7 @@ use Rattle.doc_model.specs.declared.paragraph.What.TheOpen.{What-F}
 use Rattle.doc_model.specs.Parts.{what_of}
 use Rattle.load_model.specs.declared.names.Tag.TheVariants as tag
 use Rattle.load_model.specs.declared.element.Element.{Element as Read, out-Element}
-use Rattle.load_model.specs.Met.{Gives, Met, Where, gives_of}
+use Rattle.load_model.specs.Met.{Met, Where, gives_of}
 use Rattle.spelling_model.specs.Spelling.{Piece, As, Spaces, Placed, behind_space, is_space, pieces_of, placed, stands_for_itself}
 use Rattle.written_model.specs.Content.{Run, Spanned, content, in_front_of, in_spans, is_same_span, of_run, outermost_of, runs_of, span_depth, span_element, spaces_element, spanned, what_node, within}
 use Rattle.written_model.specs.Elements.{attribute}

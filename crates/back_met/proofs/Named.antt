@@ -1,16 +1,14 @@
 -- Items whose names can be read, and what is met of each.
-use Rattle.std.proofs.Common.{◌≡◌, ◌≢◌, ℕ, List, [], ◌∷◌, ◌++◌, map, codes, decimal, refl, sym, ap, ap₂, ◌∙◌, append-nil, Option, Some, None}
-use Rattle.std.specs.List.{flat_map, AllByRecursion as Each}
+use Rattle.std.proofs.Common.{◌≡◌, ℕ, List, [], ◌∷◌, ◌++◌, map, codes, decimal, refl, ap, ap₂, ◌∙◌, Option}
 use Rattle.markup_nodes.specs.declared.words.Attr.{Attr}
 use Rattle.markup_nodes.specs.declared.tree.Elem.{Elem}
 use Rattle.markup_nodes.specs.Node.{Node, Element, Char}
 use Rattle.doc_model.specs.declared.field.Field.{Field}
 use Rattle.doc_model.specs.declared.field.Field.TheVariants as fields
-use Rattle.doc_model.specs.declared.field.Format.{Format}
 use Rattle.doc_model.specs.declared.paragraph.Item.{Item}
 use Rattle.doc_model.specs.declared.paragraph.Mark.{Mark as DocMark}
 use Rattle.doc_model.specs.declared.paragraph.Mark.TheVariants as mark
-use Rattle.doc_model.specs.declared.paragraph.Note.{Note as DocNote, out-Note}
+use Rattle.doc_model.specs.declared.paragraph.Note.{Note as DocNote}
 use Rattle.doc_model.specs.declared.paragraph.Par.{Par}
 use Rattle.doc_model.specs.declared.paragraph.What.{What}
 use Rattle.doc_model.specs.declared.paragraph.What.TheOpen.{What-F}
@@ -20,7 +18,7 @@ use Rattle.load_model.specs.declared.names.Tag.{Tag}
 use Rattle.load_model.specs.declared.names.Tag.TheVariants as tag
 use Rattle.load_model.specs.declared.element.Attribute.{Attribute}
 use Rattle.load_model.specs.declared.element.Element.{Element as Read, out-Element}
-use Rattle.load_model.specs.Met.{Met, MarkKind, Whole, Start, End, Variable, Where, in_content, mark_met, named_at, sequence_met}
+use Rattle.load_model.specs.Met.{Whole, Start, End, Variable, Where, in_content, mark_met, named_at, sequence_met}
 use Rattle.load_model.specs.Values as value
 use Rattle.load_model.specs.Values.{stated}
 use Rattle.written_model.specs.Content.{mark_element, what_node}
@@ -34,9 +32,9 @@ use Rattle.back_fields.proofs.Keys as field_name
 use Rattle.back_items.proofs.Keys as item_name
 use Rattle.back_values.proofs.Texts.{name_back}
 use Rattle.met_read.specs.Walk.{held}
-use Rattle.back_met.proofs.Nodes.{IsElement, IsNodeOf, content_met, content_one, element_of}
+use Rattle.back_met.proofs.Nodes.{IsNodeOf, content_met, content_one, element_of}
 use Rattle.back_met.specs.Things.{AreMet, Counted, IsInner, Marked, field_met, if_any, mark_at, things_in}
-use Rattle.back_met.proofs.Parts.{met_is, met_one}
+use Rattle.back_met.proofs.Parts.{met_one}
 
 -- the names of a field and of a mark can be read
 abbrev pub IsNamedField : Field → Type 0
@@ -99,9 +97,9 @@ field_is here (fields.Sequence name refname format) is t of =
     let attributes = at key.TextName name ∷ at_unless key.ReferenceName refname (at key.NumberFormat (format_text format) ∷ []) in
     let attrs = attribute (codes "text:name") name ∷ (unless_empty (codes "text:ref-name") refname ++ format_attribute format ∷ []) in
     let are : map named_attribute attrs ≡ attributes =
-        named_first (codes "text:name") name key.TextName (unless_empty (codes "text:ref-name") refname ++ format_attribute format ∷ []) (at_unless key.ReferenceName refname (at key.NumberFormat (format_text format) ∷ []))
-        field_name.name_key (named_unless (codes "text:ref-name") refname key.ReferenceName (format_attribute format ∷ []) (at key.NumberFormat (format_text format) ∷ []) field_name.ref_name_key
-        (named_first (codes "style:num-format") (format_text format) key.NumberFormat [] [] field_name.format_key refl)) in
+    named_first (codes "text:name") name key.TextName (unless_empty (codes "text:ref-name") refname ++ format_attribute format ∷ []) (at_unless key.ReferenceName refname (at key.NumberFormat (format_text format) ∷ []))
+    field_name.name_key (named_unless (codes "text:ref-name") refname key.ReferenceName (format_attribute format ∷ []) (at key.NumberFormat (format_text format) ∷ []) field_name.ref_name_key
+    (named_first (codes "style:num-format") (format_text format) key.NumberFormat [] [] field_name.format_key refl)) in
     let one = element_of t (codes "text:sequence") attrs [] tag.Sequence attributes of field_name.sequence_tag are in
     let place = (out-Element one.found).place in
     (place, content_one t tag.Sequence attributes [] one here ∙ ap₂ (λ (found other : Option (List ℕ)). sequence_met place found other) (name_back name is.0.0 is.0.1) (refname_stated name refname (format_text format) is.1))

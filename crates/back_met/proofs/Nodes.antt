@@ -3,12 +3,12 @@ use Rattle.std.proofs.Common.{◌≡◌, ℕ, List, [], ◌∷◌, ◌++◌, map
 use mathlib.Core.Former.{this}
 use Rattle.markup_nodes.specs.formers.nodes.Nodes.{the_former}
 use Rattle.markup_nodes.specs.declared.words.Attr.{Attr}
-use Rattle.markup_nodes.specs.declared.tree.Elem.{Elem, roll-Elem}
+use Rattle.markup_nodes.specs.declared.tree.Elem.{Elem}
 use Rattle.markup_nodes.specs.Node.{Node, Element, Char}
 use Rattle.markup_nodes.specs.Nodes.{elems}
 use Rattle.load_model.specs.declared.names.Tag.{Tag}
 use Rattle.load_model.specs.declared.element.Attribute.{Attribute}
-use Rattle.load_model.specs.declared.element.Element.{Element as Read, out-Element, roll-Element}
+use Rattle.load_model.specs.declared.element.Element.{Element as Read, out-Element}
 use Rattle.load_model.specs.declared.element.Element.TheOpen.{Element-F}
 use Rattle.load_model.specs.declared.element.Element.TheViews.{out-roll-Element}
 use Rattle.load_model.specs.declared.element.Element.TheFolds.{fold_out-Element}

@@ -4,11 +4,11 @@ use Rattle.std.specs.List.{flat_map, AllByRecursion as Each}
 use Rattle.std.proofs.lemmas.Grind.{flat_map-append}
 use Rattle.markup_nodes.specs.declared.words.Attr.{Attr}
 use Rattle.markup_nodes.specs.declared.tree.Elem.{Elem}
-use Rattle.markup_nodes.specs.Node.{Node, Element, Char}
+use Rattle.markup_nodes.specs.Node.{Node}
 use Rattle.markup_nodes.specs.Nodes.{elems}
 use Rattle.doc_model.specs.declared.paragraph.Item.{Item}
 use Rattle.doc_model.specs.declared.paragraph.ListPos.{ListPos}
-use Rattle.doc_model.specs.declared.paragraph.Note.{Note as DocNote, out-Note}
+use Rattle.doc_model.specs.declared.paragraph.Note.{Note as DocNote}
 use Rattle.doc_model.specs.declared.paragraph.Par.{Par, out-Par}
 use Rattle.doc_model.specs.Parts.{items_of}
 use Rattle.load_model.specs.declared.names.Tag.{Tag}
@@ -101,7 +101,7 @@ module _ (text : ℕ) (sections : List ℕ) where
   nested_inner zero item node t of = entry_inner item node t of
   nested_inner (suc deeper) item node t of =
       let list = inner_at t (codes "text:list-item") tag.ListItem (element (codes "text:list") [] (nested_entry deeper (entry_element item node) ∷ [])) of named.item_tag (entries_met (here true) (t ∷ []))
-          (λ one. entries_one t tag.ListItem [] (element (codes "text:list") [] (nested_entry deeper (entry_element item node) ∷ []) ∷ []) one (here true)) in
+      (λ one. entries_one t tag.ListItem [] (element (codes "text:list") [] (nested_entry deeper (entry_element item node) ∷ []) ∷ []) one (here true)) in
       let entry = list_entry true [] (nested_entry deeper (entry_element item node)) list.inner list.inner_of in
       let rest = nested_inner deeper item node entry.first_node entry.first_of in
       record { inner = rest.inner; inner_of = rest.inner_of; same = list.same ∙ entry.first_same ∙ rest.same }

@@ -1,5 +1,5 @@
 -- The names of a valid document can be read where they are met.
-use Rattle.std.proofs.Common.{◌≡◌, ◌≢◌, ℕ, List, [], ◌∷◌, ◌++◌, map}
+use Rattle.std.proofs.Common.{◌≡◌, List, [], ◌∷◌}
 use Rattle.std.specs.List.{flat_map, AllByRecursion as Each}
 use Rattle.markup_nodes.specs.Node.{Element}
 use Rattle.doc_model.specs.declared.document.Document.{Document}

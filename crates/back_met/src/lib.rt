@@ -3,4 +3,4 @@
 
 mod laws;
 
-pub use laws::{texts_are_met};
+pub use laws::texts_are_met;
