@@ -43,6 +43,7 @@ IsNamedField (fields.VarSet name value) = IsName name
 IsNamedField (fields.VarGet name) = IsName name
 IsNamedField _ = Unit {0}
 
+-- the same of an item by what it is
 abbrev pub IsNamedWhat : What-F What Item DocNote Par → Type 0
 IsNamedWhat (What-F.Field field) = IsNamedField field
 IsNamedWhat (What-F.Mark mark) = IsName (mark_name mark)

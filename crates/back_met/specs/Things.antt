@@ -22,12 +22,14 @@ pub data Thing : Type 0 where
   Counted : (field : Field) → Thing
   Noted : (note : DocNote) → Thing
 
+-- what is met of an item, by what it is: characters, tabs and breaks are nothing
 abbrev pub things_in : What-F What Item DocNote Par → List Thing
 things_in (What-F.Mark mark) = Marked mark ∷ []
 things_in (What-F.Field field) = Counted field ∷ []
 things_in (What-F.Note note) = Noted note ∷ []
 things_in _ = []
 
+-- the same of the item
 abbrev pub things_of : Item → List Thing
 things_of item = things_in (what_of item)
 
@@ -35,6 +37,7 @@ things_of item = things_in (what_of item)
 abbrev pub note_items : DocNote → List Item
 note_items note = flat_map items_of (out-Note note).pars
 
+-- what a mark is met as
 abbrev pub kind_of : DocMark → MarkKind
 kind_of (mark.Point name) = Whole
 kind_of (mark.Start name) = Start
@@ -45,28 +48,30 @@ abbrev pub if_any : List ℕ → Option (List ℕ)
 if_any [] = None
 if_any (c ∷ cs) = Some (c ∷ cs)
 
+-- what a field at a place is met as: a sequence with its reference name, or a variable
 abbrev pub field_met : ℕ → Field → List Met
 field_met place (fields.Sequence name refname format) = map Reference (named_at place (if_any refname)) ++ Sequence (record { place = place; name = name }) ∷ []
 field_met place (fields.VarSet name value) = Variable (record { place = place; name = name }) ∷ []
 field_met place (fields.VarGet name) = Variable (record { place = place; name = name }) ∷ []
 field_met place _ = []
 
+-- a mark that is met at a place in a text
 abbrev pub mark_at : ℕ → ℕ → DocMark → Met
 mark_at place text mark = Mark (record { place = place; text = text; kind = kind_of mark; name = mark_name mark })
 
--- each thing is met so, one after another
+-- each of some things is met so, one after another, and nothing else is
 abbrev pub AreMet : (Thing → List Met → Type 0) → List Thing → List Met → Type 0
 AreMet P [] met = met ≡ []
 AreMet P (thing ∷ things) met = (one : List Met) × (more : List Met) × (met ≡ one ++ more) × P thing one × AreMet P things more
 
--- in a note
+-- a thing is met so in the text of a note, wherever it stands there
 abbrev pub IsInner : ℕ → Thing → List Met → Type 0
 IsInner text (Marked mark) met = (place : ℕ) × (met ≡ mark_at place text mark ∷ [])
 IsInner text (Counted field) met = (place : ℕ) × (met ≡ field_met place field)
 IsInner text (Noted note) met = ⊥
 IsInner text (Headed name) met = ⊥
 
--- in the body
+-- a thing is met so in the body, wherever it stands: what a note holds is met in a text of its own
 abbrev pub IsMet : Thing → List Met → Type 0
 IsMet (Marked mark) met = (place : ℕ) × (met ≡ mark_at place 0 mark ∷ [])
 IsMet (Counted field) met = (place : ℕ) × (met ≡ field_met place field)
