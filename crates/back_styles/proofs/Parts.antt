@@ -44,7 +44,7 @@ first_is : (wanted which : Tag) (element : Read) (more : List Read) → tag_of e
 first_is wanted which element more is = ap (λ (of : Tag). cond (is_same_tag of wanted) (Some element) (first wanted more)) is
 
 -- a part without elements of which no attribute is left out
-part_none : (rules : List Rule) (name : List ℕ) (attrs : List Attr) → attributes_left rules (map named_attribute attrs) ≡ 0
+pub part_none : (rules : List Rule) (name : List ℕ) (attrs : List Attr) → attributes_left rules (map named_attribute attrs) ≡ 0
     → both (only_attributes (attributes_left rules (attributes_of (shown (element name attrs []))))) (leaf_left (shown (element name attrs []))) ≡ nothing
 part_none rules name attrs none =
     ap₂ (λ (attributes : List Attribute) (inner : List Read). both (only_attributes (attributes_left rules attributes)) (all_but 0 inner)) (attributes_shown name attrs []) (children_shown name attrs [])
