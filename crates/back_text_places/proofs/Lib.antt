@@ -1,0 +1,9 @@
+pub mod Steps
+pub mod Raws
+pub mod Pars
+pub mod Own
+pub mod Same
+pub mod Notes
+pub mod Contents
+pub mod Blocks
+pub mod Texts
