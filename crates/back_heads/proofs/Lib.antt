@@ -1,0 +1,5 @@
+pub mod Inside
+pub mod Same
+pub mod Items
+pub mod Heads
+pub mod Headers

@@ -1,0 +1,14 @@
+pub mod Lists
+pub mod Loops
+pub mod Kept
+pub mod Declared
+pub mod Heads
+pub mod Alike
+pub mod Paragraphs
+pub mod Keys
+pub mod Root
+pub mod Sections
+pub mod Plain
+pub mod Depth
+pub mod Beyond
+pub mod Everything

@@ -1,0 +1,13 @@
+pub mod Blocks
+pub mod Chars
+pub mod Content
+pub mod Fields
+pub mod Legal
+pub mod Lists
+pub mod Masters
+pub mod Nodes
+pub mod Paragraphs
+pub mod Root
+pub mod Sheets
+pub mod Valid
+pub mod Values

@@ -1,0 +1,5 @@
+pub mod Chars
+pub mod Constructs
+pub mod Lists
+pub mod Spelled
+pub mod Trees
