@@ -1,0 +1,4 @@
+pub mod Stood
+pub mod Contents
+pub mod Blocks
+pub mod Whole
