@@ -1,0 +1,11 @@
+pub mod Lists
+pub mod Keys
+pub mod Root
+pub mod Tags
+pub mod Files
+pub mod Named
+pub mod Kept
+pub mod Names
+pub mod Sheets
+pub mod Masters
+pub mod Styles
