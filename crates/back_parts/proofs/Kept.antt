@@ -29,7 +29,8 @@ use Rattle.back_styles.proofs.Parts.{held_both}
 use Rattle.back_sheets.specs.Layouts.{layout_read}
 use Rattle.back_lists.specs.Lists.{list_read, outline_read}
 use Rattle.tree_places.proofs.Within.{Pairs, pairs_of, each_weaker, each_within, within_filter}
-use Rattle.back_parts.specs.Parts.{root_read, master_read}
+use Rattle.back_masters.specs.Masters.{master_read}
+use Rattle.back_parts.specs.Parts.{root_read}
 use Rattle.back_parts.proofs.Files.{common_nodes, automatic_nodes, body_read, body_tagged, root_children, master_nodes, none_of_tag, first_both, or_none}
 use Rattle.back_parts.proofs.Lists.{made_of_each, filter_all, filter_none, filter_made, firsts_made, pairs_joined, pairs_of_made, sorted, each_passed}
 use Rattle.back_parts.proofs.Named.{AreNamed}

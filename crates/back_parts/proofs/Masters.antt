@@ -16,7 +16,8 @@ use Rattle.load_model.specs.Styles.{Names, name_of, names_of, kept_masters}
 use Rattle.back_styles.specs.Shown.{held_of}
 use Rattle.back_styles.proofs.Parts.{attributes_shown, children_shown}
 use Rattle.tree_places.proofs.Within.{each_weaker}
-use Rattle.back_parts.specs.Parts.{AreBack, IsMasterBack, root_read, names_in, master_read, master_of}
+use Rattle.back_masters.specs.Masters.{IsMasterBack, master_read, master_of}
+use Rattle.back_parts.specs.Parts.{AreBack, root_read, names_in}
 use Rattle.back_parts.proofs.Files.{master_nodes, part_of, masters_found, all_counted}
 use Rattle.back_parts.proofs.Kept.{masters_held}
 use Rattle.back_parts.proofs.Lists.{all_read, map_same, none_left}

@@ -22,7 +22,8 @@ use Rattle.back_styles.proofs.Parts.{children_shown}
 use Rattle.back_sheets.specs.Layouts.{layout_read}
 use Rattle.back_lists.specs.Lists.{list_read}
 use Rattle.tree_places.proofs.Within.{pairs_of, each_weaker}
-use Rattle.back_parts.specs.Parts.{root_read, names_in, master_read}
+use Rattle.back_masters.specs.Masters.{master_read}
+use Rattle.back_parts.specs.Parts.{root_read, names_in}
 use Rattle.back_parts.proofs.Files.{master_nodes, part_of, masters_found}
 use Rattle.back_parts.proofs.Kept.{masters_held, own_part, styles_kept, lists_kept, layouts_kept, named_alone}
 use Rattle.back_parts.proofs.Lists.{all_read, all_kept, pairs_of_made}

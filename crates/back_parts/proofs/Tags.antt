@@ -32,7 +32,7 @@ use Rattle.back_styles.proofs.Parts.{tag_shown, attributes_shown}
 use Rattle.back_sheets.specs.Layouts.{layout_read}
 use Rattle.back_lists.specs.Lists.{list_read, outline_read}
 use Rattle.back_lists.proofs.Keys.{outline_tag}
-use Rattle.back_parts.specs.Parts.{master_read}
+use Rattle.back_masters.specs.Masters.{master_read}
 use Rattle.back_parts.proofs.Keys as named
 use Rattle.back_parts.proofs.Root.{AreOfTag, part_tags}
 

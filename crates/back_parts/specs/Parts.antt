@@ -1,18 +1,12 @@
 -- The style parts and masters of a written document, which can be read back.
-use Rattle.std.specs.Prelude.{◌≡◌, ℕ, List, [], map, Some}
+use Rattle.std.specs.Prelude.{map}
 use Rattle.std.specs.List.{AllByRecursion as Each}
 use Rattle.doc_model.specs.declared.document.Document.{Document}
-use Rattle.doc_model.specs.declared.page_layout.Master.{Master}
-use Rattle.load_model.specs.declared.names.Key.TheVariants as key
-use Rattle.load_model.specs.declared.names.Tag.TheVariants as tag
 use Rattle.load_model.specs.declared.element.Element.{Element}
-use Rattle.load_model.specs.Headers.{head_paragraphs, master_left}
-use Rattle.load_model.specs.Left.{nothing, attributes_of}
-use Rattle.load_model.specs.Styles.{Names, name_of, reference}
-use Rattle.load_model.specs.Values.{stated_or}
-use Rattle.written_model.specs.Styles.{master_element}
+use Rattle.load_model.specs.Styles.{Names}
 use Rattle.written_model.specs.Written.{text_element, written}
 use Rattle.back_names.specs.Named.{named}
+use Rattle.back_masters.specs.Masters.{IsMasterBack}
 use Rattle.back_lists.specs.Lists.{IsInRange as IsLevelInRange, IsListBack, IsOutlineBack}
 use Rattle.back_sheets.specs.Layouts.{HasLengths, IsLayoutBack}
 use Rattle.back_styles.specs.Shown.{shown}
@@ -33,26 +27,6 @@ names_in doc = record {
   layouts = map (λ layout. layout.name) doc.layouts;
   masters = map (λ master. master.name) doc.masters;
 }
-
--- a master as it is written, named
-abbrev pub master_read : Master → Element
-master_read master = shown (master_element master)
-
--- the master that an element with this name is read as
-abbrev pub master_of : Names → Element → List ℕ → Master
-master_of names element name = record {
-  name = name;
-  layout = stated_or key.Layout (reference names.layouts) [] (attributes_of element);
-  next = stated_or key.Next (reference names.masters) [] (attributes_of element);
-  header = head_paragraphs names tag.Header element;
-  footer = head_paragraphs names tag.Footer element;
-}
-
--- a master is read as itself, and nothing is left out
-pub record IsMasterBack (names : Names) (master : Master) : Type 0 where
-  pub name : name_of (master_read master) ≡ Some master.name
-  pub value : master_of names (master_read master) master.name ≡ master
-  pub left : master_left names (master_read master) ≡ nothing
 
 -- each style, list style, layout and master of a document is read as itself, and so are the default style and the outline
 pub record AreBack (doc : Document) : Type 0 where
