@@ -9,3 +9,4 @@ pub mod Names
 pub mod Sheets
 pub mod Masters
 pub mod Styles
+pub mod Heads

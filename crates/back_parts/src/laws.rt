@@ -3,6 +3,7 @@
 ghost use Rattle.std.specs.Prelude.{◌≡◌, [], ◌∷◌, Some};
 ghost use Rattle.std.specs.List.{AllByRecursion as Each};
 ghost use Rattle.doc_model.specs.declared.document.Document.{Document};
+ghost use Rattle.doc_model.specs.Parts.{head_paragraphs};
 ghost use Rattle.doc_model.specs.Valid.{IsValid};
 ghost use Rattle.load_model.specs.declared.names.Key.TheVariants as key;
 ghost use Rattle.load_model.specs.Blocks.{left_by};
@@ -12,6 +13,8 @@ ghost use Rattle.load_model.specs.Loaded.{is_global, text_of, read_in_root, body
 ghost use Rattle.load_model.specs.Styles.{names_of, styles, defaults, list_styles, outline, layouts, style_parts_left};
 ghost use Rattle.load_model.specs.Values as value;
 ghost use Rattle.load_model.specs.Values.{rule};
+ghost use Rattle.back_heads.specs.Heads.{IsAdjusted};
+ghost use Rattle.back_masters.specs.Masters.{IsMasterBack};
 ghost use Rattle.back_lists.specs.Lists.{IsListBack, IsOutlineBack};
 ghost use Rattle.back_sheets.specs.Layouts.{IsLayoutBack};
 ghost use Rattle.back_styles.specs.Styles.{IsStyleBack, IsDefaultBack};
@@ -56,4 +59,10 @@ pub fn valid_styles_are_read_back()
     ensures lists { (doc : Document) → IsValid doc → AreStylesInRange doc → Each IsListBack doc.lists }
     ensures outline { (doc : Document) → IsValid doc → AreStylesInRange doc → IsOutlineBack doc.outline }
     ensures layouts { (doc : Document) → IsValid doc → AreStylesInRange doc → Each IsLayoutBack doc.layouts }
+{}
+
+/// The masters of a valid document are each read as itself, where the pages that the fields of their headers and footers add are in
+/// the range of their type.
+pub fn valid_masters_are_read_back()
+    ensures { (doc : Document) → IsValid doc → Each (λ par. Each IsAdjusted par.items) (head_paragraphs doc) → Each (IsMasterBack (names_in doc)) doc.masters }
 {}

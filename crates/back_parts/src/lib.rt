@@ -6,5 +6,5 @@ mod laws;
 
 pub use laws::{
     files_are_read_back, masters_are_read_back, names_are_read_back, sheets_are_read_back,
-    valid_styles_are_read_back,
+    valid_masters_are_read_back, valid_styles_are_read_back,
 };
