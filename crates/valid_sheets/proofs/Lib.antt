@@ -1,0 +1,6 @@
+pub mod Lists
+pub mod Stated
+pub mod Names
+pub mod References
+pub mod Styles
+pub mod Levels

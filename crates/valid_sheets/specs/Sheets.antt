@@ -1,0 +1,29 @@
+-- Facts of a valid document that speak of its styles, lists, page layouts and masters alone.
+use Rattle.std.specs.Prelude.{◌≡◌, ◌≢◌, [], map, AllPairs}
+use Rattle.std.specs.List.{AllByRecursion as Each}
+use Rattle.doc_model.specs.declared.document.Document.{Document}
+use Rattle.doc_model.specs.Valid.{AreInOrder, AreLevels, AreNamesGiven, IsNoneOrGiven, IsNumberLevel, IsStyle, StatesNoTabs}
+
+-- each two styles of a family have different names, and each has one
+pub record AreStylesNamed (doc : Document) : Type 0 where
+  pub styles_in_order : AreInOrder doc.styles
+  pub style_names : AllPairs (λ left right. left.family ≡ right.family → left.name ≢ right.name) doc.styles
+  pub style_names_given : Each (λ style. style.name ≢ []) doc.styles
+
+-- so it is with lists, page layouts and masters
+pub record AreOthersNamed (doc : Document) : Type 0 where
+  pub list_names : AreNamesGiven (map (λ list. list.name) doc.lists)
+  pub layout_names : AreNamesGiven (map (λ layout. layout.name) doc.layouts)
+  pub master_names : AreNamesGiven (map (λ master. master.name) doc.masters)
+
+-- what is referred to is there
+pub record AreReferencesThere (doc : Document) : Type 0 where
+  pub default_tabs : StatesNoTabs doc.defaults
+  pub styles : Each (IsStyle doc) doc.styles
+  pub layout_names_used : Each (λ master. IsNoneOrGiven (map (λ layout. layout.name) doc.layouts) master.layout) doc.masters
+  pub next_masters : Each (λ master. IsNoneOrGiven (map (λ other. other.name) doc.masters) master.next) doc.masters
+
+-- the levels of lists and of the outline are valid
+pub record AreListsValid (doc : Document) : Type 0 where
+  pub lists : Each (λ list. AreLevels list.levels) doc.lists
+  pub outline : (doc.outline.name ≡ []) × AreLevels doc.outline.levels × Each IsNumberLevel doc.outline.levels

@@ -1,0 +1,25 @@
+//! What the styles, lists, page layouts and masters of a file are read as.
+
+ghost use Rattle.legal_trees.specs.Legal.{IsLegalTree};
+ghost use Rattle.load_model.specs.declared.element.Element.{Element};
+ghost use Rattle.load_model.specs.Loaded.{draft_of};
+ghost use Rattle.valid_sheets.specs.Sheets.{AreListsValid, AreOthersNamed, AreReferencesThere, AreStylesNamed};
+
+/// Styles of one family have different names, and those that aren't automatic stand first; lists, page layouts and masters have different
+/// names; and each has a name.
+pub fn names_are_apart()
+    ensures styles { (root : Element) → AreStylesNamed (draft_of root) }
+    ensures others { (root : Element) → AreOthersNamed (draft_of root) }
+{}
+
+/// The parents, following styles and masters of styles are there, and so are the layouts and following masters of masters. A style states
+/// what its family has.
+pub fn references_are_there()
+    ensures { (root : Element) → AreReferencesThere (draft_of root) }
+{}
+
+/// Where all characters of a file are legal, the levels of its lists and of its outline are labelled by legal characters and ascend, and no
+/// level of the outline is labelled by a bullet.
+pub fn lists_are_valid()
+    ensures { (root : Element) → IsLegalTree root → AreListsValid (draft_of root) }
+{}
