@@ -4,3 +4,4 @@ pub mod Names
 pub mod References
 pub mod Styles
 pub mod Levels
+pub mod Headers

@@ -1,8 +1,9 @@
 -- Facts of a valid document that speak of its styles, lists, page layouts and masters alone.
-use Rattle.std.specs.Prelude.{◌≡◌, ◌≢◌, [], map, AllPairs}
+use Rattle.std.specs.Prelude.{◌≡◌, ◌≢◌, ◌≤◌, [], map, length, AllPairs}
 use Rattle.std.specs.List.{AllByRecursion as Each}
 use Rattle.doc_model.specs.declared.document.Document.{Document}
-use Rattle.doc_model.specs.Valid.{AreInOrder, AreLevels, AreNamesGiven, IsNoneOrGiven, IsNumberLevel, IsStyle, StatesNoTabs}
+use Rattle.doc_model.specs.Parts.{head_paragraphs}
+use Rattle.doc_model.specs.Valid.{AreInOrder, AreLevels, AreNamesGiven, IsNoneOrGiven, IsNumberLevel, IsOfHeader, IsStyle, StatesNoTabs}
 
 -- each two styles of a family have different names, and each has one
 pub record AreStylesNamed (doc : Document) : Type 0 where
@@ -27,3 +28,8 @@ pub record AreReferencesThere (doc : Document) : Type 0 where
 pub record AreListsValid (doc : Document) : Type 0 where
   pub lists : Each (λ list. AreLevels list.levels) doc.lists
   pub outline : (doc.outline.name ≡ []) × AreLevels doc.outline.levels × Each IsNumberLevel doc.outline.levels
+
+-- headers and footers hold what may stand there
+pub record AreHeadersValid (doc : Document) : Type 0 where
+  pub headers : Each (λ master. (length master.header ≤ 16) × (length master.footer ≤ 16)) doc.masters
+  pub header_items : Each (λ par. Each IsOfHeader par.items) (head_paragraphs doc)

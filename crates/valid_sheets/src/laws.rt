@@ -3,7 +3,7 @@
 ghost use Rattle.legal_trees.specs.Legal.{IsLegalTree};
 ghost use Rattle.load_model.specs.declared.element.Element.{Element};
 ghost use Rattle.load_model.specs.Loaded.{draft_of};
-ghost use Rattle.valid_sheets.specs.Sheets.{AreListsValid, AreOthersNamed, AreReferencesThere, AreStylesNamed};
+ghost use Rattle.valid_sheets.specs.Sheets.{AreHeadersValid, AreListsValid, AreOthersNamed, AreReferencesThere, AreStylesNamed};
 
 /// Styles of one family have different names, and those that aren't automatic stand first; lists, page layouts and masters have different
 /// names; and each has a name.
@@ -22,4 +22,10 @@ pub fn references_are_there()
 /// level of the outline is labelled by a bullet.
 pub fn lists_are_valid()
     ensures { (root : Element) → IsLegalTree root → AreListsValid (draft_of root) }
+{}
+
+/// Where all characters of a file are legal, headers and footers have at most sixteen paragraphs each, which hold what may stand there:
+/// legal characters from U+20 on, tabs, breaks, page numbers, page counts and chapters.
+pub fn headers_are_valid()
+    ensures { (root : Element) → IsLegalTree root → AreHeadersValid (draft_of root) }
 {}
