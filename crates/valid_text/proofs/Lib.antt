@@ -1,0 +1,17 @@
+pub mod Steps
+pub mod Lists
+pub mod Good
+pub mod Values
+pub mod Raws
+pub mod Settled
+pub mod Walk
+pub mod Pars
+pub mod Notes
+pub mod Contents
+pub mod Blocks
+pub mod Elements
+pub mod Has
+pub mod Names
+pub mod Declared
+pub mod Parts
+pub mod Drafts
