@@ -248,7 +248,7 @@ module _ (root : Element) (legal : IsLegalTree root) where
   found_legal None each = tt
   found_legal (Some part) each = children_legal part each.0
 
-  masters_legal : Each IsLegalTree (kept_masters root)
+  pub masters_legal : Each IsLegalTree (kept_masters root)
   masters_legal =
       each_firsts IsLegalTree _ _ (each_filter IsLegalTree _ (masters_in root)
       (found_legal (first tag.MasterStyles (children root)) (each_found IsLegalTree (is tag.MasterStyles) (children root) (children_legal root legal))))

@@ -35,19 +35,18 @@ inner_legal (Letter c ∷ nodes) each = inner_legal nodes each.1
 pub children_legal : (element : Element) → IsLegalTree element → Each IsLegalTree (children element)
 children_legal element legal = inner_legal (out-Element element).nodes (nodes_legal element legal)
 
-pub held_legal : (root : Element) → IsLegalTree root → (of_kind : Element → Bool) → Each IsLegalTree (parts_of_kind of_kind root)
-held_legal root legal of_kind =
-    each_filter IsLegalTree of_kind (map (λ in_part. in_part.element) (in_parts root))
-    (each_map IsLegalTree (λ in_part. in_part.element) (in_parts root)
-    (each_flat (λ (in_part : InPart). IsLegalTree in_part.element) (λ part. map (λ element. record { auto = is tag.AutomaticStyles part; element = element }) (children part)) (style_parts root)
+pub parts_legal : (root : Element) → IsLegalTree root → Each (λ (in_part : InPart). IsLegalTree in_part.element) (in_parts root)
+parts_legal root legal =
+    each_flat (λ (in_part : InPart). IsLegalTree in_part.element) (λ part. map (λ element. record { auto = is tag.AutomaticStyles part; element = element }) (children part)) (style_parts root)
     (each_so IsLegalTree (λ part. Each (λ (in_part : InPart). IsLegalTree in_part.element) (map (λ element. record { auto = is tag.AutomaticStyles part; element = element }) (children part)))
     (λ part own. each_map (λ (in_part : InPart). IsLegalTree in_part.element) (λ element. record { auto = is tag.AutomaticStyles part; element = element }) (children part) (children_legal part own))
-    (style_parts root) (each_firsts IsLegalTree _ _ (each_filter IsLegalTree _ (children root) (children_legal root legal))))))
+    (style_parts root) (each_firsts IsLegalTree _ _ (each_filter IsLegalTree _ (children root) (children_legal root legal))))
+
+pub held_legal : (root : Element) → IsLegalTree root → (of_kind : Element → Bool) → Each IsLegalTree (parts_of_kind of_kind root)
+held_legal root legal of_kind =
+    each_filter IsLegalTree of_kind (map (λ in_part. in_part.element) (in_parts root)) (each_map IsLegalTree (λ in_part. in_part.element) (in_parts root) (parts_legal root legal))
 
 -- ten numbers that rise
-ten : List ℕ
-ten = 1 ∷ 2 ∷ 3 ∷ 4 ∷ 5 ∷ 6 ∷ 7 ∷ 8 ∷ 9 ∷ 10 ∷ []
-
 rising : Pairs (λ (one other : ℕ). one < other) (1 ∷ 2 ∷ 3 ∷ 4 ∷ 5 ∷ 6 ∷ 7 ∷ 8 ∷ 9 ∷ 10 ∷ [])
 rising = ((omega arith, (omega arith, (omega arith, (omega arith, (omega arith, (omega arith, (omega arith, (omega arith, (omega arith, tt))))))))), ((omega arith, (omega arith, (omega arith, (omega arith, (omega arith, (omega arith, (omega arith, (omega arith, tt)))))))), ((omega arith, (omega arith, (omega arith, (omega arith, (omega arith, (omega arith, (omega arith, tt))))))), ((omega arith, (omega arith, (omega arith, (omega arith, (omega arith, (omega arith, tt)))))), ((omega arith, (omega arith, (omega arith, (omega arith, (omega arith, tt))))), ((omega arith, (omega arith, (omega arith, (omega arith, tt)))), ((omega arith, (omega arith, (omega arith, tt))), ((omega arith, (omega arith, tt)), ((omega arith, tt), (tt, tt))))))))))
 

@@ -5,3 +5,4 @@ pub mod References
 pub mod Styles
 pub mod Levels
 pub mod Headers
+pub mod Legal

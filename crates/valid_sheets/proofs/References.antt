@@ -25,7 +25,7 @@ use Rattle.valid_sheets.proofs.Names.{layouts_called, master_of, masters_called,
 use Rattle.valid_sheets.proofs.Stated.{Anything, anything, each_stated, is_stated, number_read, reference_there, some_same}
 
 -- the names of kept things are those that they state
-names_listed : (elements : List Element) → filter_map name_of elements ≡ flat_map own_name elements
+pub names_listed : (elements : List Element) → filter_map name_of elements ≡ flat_map own_name elements
 names_listed [] = refl
 names_listed (element ∷ elements) = by_name (name_of element) refl (names_listed elements) where
   by_name : (name : Option (List ℕ)) → name_of element ≡ name → filter_map name_of elements ≡ flat_map own_name elements → filter_map name_of (element ∷ elements) ≡ option_to_list (name_of element) ++ flat_map own_name elements

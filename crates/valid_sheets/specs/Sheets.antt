@@ -1,8 +1,9 @@
 -- Facts of a valid document that speak of its styles, lists, page layouts and masters alone.
-use Rattle.std.specs.Prelude.{◌≡◌, ◌≢◌, ◌≤◌, [], map, length, AllPairs}
-use Rattle.std.specs.List.{AllByRecursion as Each}
+use Rattle.std.specs.Prelude.{◌≡◌, ◌≢◌, ℕ, ◌≤◌, List, [], ◌∷◌, ◌++◌, map, length, AllPairs}
+use Rattle.std.specs.List.{flat_map, AllByRecursion as Each}
+use Rattle.doc_model.specs.Chars.{IsLegal}
 use Rattle.doc_model.specs.declared.document.Document.{Document}
-use Rattle.doc_model.specs.Parts.{head_paragraphs}
+use Rattle.doc_model.specs.Parts.{head_paragraphs, names_of_style}
 use Rattle.doc_model.specs.Valid.{AreInOrder, AreLevels, AreNamesGiven, IsNoneOrGiven, IsNumberLevel, IsOfHeader, IsStyle, StatesNoTabs}
 
 -- each two styles of a family have different names, and each has one
@@ -33,3 +34,15 @@ pub record AreListsValid (doc : Document) : Type 0 where
 pub record AreHeadersValid (doc : Document) : Type 0 where
   pub headers : Each (λ master. (length master.header ≤ 16) × (length master.footer ≤ 16)) doc.masters
   pub header_items : Each (λ par. Each IsOfHeader par.items) (head_paragraphs doc)
+
+-- a name of legal characters that isn't too long
+abbrev pub IsGoodName : List ℕ → Type 0
+IsGoodName name = Each IsLegal name × (length name ≤ 1024)
+
+-- the names that stand in styles, lists, page layouts and masters
+abbrev pub sheet_names : Document → List (List ℕ)
+sheet_names doc =
+    flat_map names_of_style doc.styles
+    ++ map (λ list. list.name) doc.lists
+    ++ doc.outline.name ∷ map (λ layout. layout.name) doc.layouts
+    ++ flat_map (λ master. master.name ∷ master.layout ∷ master.next ∷ []) doc.masters

@@ -3,7 +3,8 @@
 ghost use Rattle.legal_trees.specs.Legal.{IsLegalTree};
 ghost use Rattle.load_model.specs.declared.element.Element.{Element};
 ghost use Rattle.load_model.specs.Loaded.{draft_of};
-ghost use Rattle.valid_sheets.specs.Sheets.{AreHeadersValid, AreListsValid, AreOthersNamed, AreReferencesThere, AreStylesNamed};
+ghost use Rattle.std.specs.List.{AllByRecursion as Each};
+ghost use Rattle.valid_sheets.specs.Sheets.{AreHeadersValid, AreListsValid, AreOthersNamed, AreReferencesThere, AreStylesNamed, IsGoodName, sheet_names};
 
 /// Styles of one family have different names, and those that aren't automatic stand first; lists, page layouts and masters have different
 /// names; and each has a name.
@@ -28,4 +29,10 @@ pub fn lists_are_valid()
 /// legal characters from U+20 on, tabs, breaks, page numbers, page counts and chapters.
 pub fn headers_are_valid()
     ensures { (root : Element) → IsLegalTree root → AreHeadersValid (draft_of root) }
+{}
+
+/// Where all characters of a file are legal, so are those of the names that stand in its styles, lists, page layouts and masters, and none of
+/// these is longer than 1024 characters.
+pub fn names_are_legal()
+    ensures { (root : Element) → IsLegalTree root → Each IsGoodName (sheet_names (draft_of root)) }
 {}

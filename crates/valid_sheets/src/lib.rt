@@ -5,4 +5,6 @@
 
 mod laws;
 
-pub use laws::{headers_are_valid, lists_are_valid, names_are_apart, references_are_there};
+pub use laws::{
+    headers_are_valid, lists_are_valid, names_are_apart, names_are_legal, references_are_there,
+};
