@@ -35,12 +35,15 @@ find_each {X = X} P test (one ∷ xs) each x e = by_test (test one) (find_each P
 children_legal : (element : Read) → IsLegalTree element → Each IsLegalTree (children element)
 children_legal element legal = elems_legal (out-Element element).nodes (nodes_legal element legal)
 
--- the text is legal
-text_legal : (root : Read) → IsLegalTree root → (text : Read) → text_of root ≡ Some text → IsLegalTree text
-text_legal root legal text e = by_body (body_of root) refl e where
-  by_body : (found : Option Read) → body_of root ≡ found → option_and_then (λ body. first tag.Text (children body)) found ≡ Some text → IsLegalTree text
+-- what holds of all elements in the root and of those in them holds of the text
+pub text_found : (P : Read → Type 0) → ((element : Read) → P element → Each P (children element)) → (root : Read) → Each P (children root) → (text : Read) → text_of root ≡ Some text → P text
+text_found P inner root each text e = by_body (body_of root) refl e where
+  by_body : (found : Option Read) → body_of root ≡ found → option_and_then (λ body. first tag.Text (children body)) found ≡ Some text → P text
   by_body None is e = absurd cc
-  by_body (Some body) is e = find_each IsLegalTree (of tag.Text) (children body) (children_legal body (find_each IsLegalTree (of tag.Body) (children root) (children_legal root legal) body is)) text e
+  by_body (Some body) is e = find_each P (of tag.Text) (children body) (inner body (find_each P (of tag.Body) (children root) each body is)) text e
+
+text_legal : (root : Read) → IsLegalTree root → (text : Read) → text_of root ≡ Some text → IsLegalTree text
+text_legal root legal text e = text_found IsLegalTree children_legal root (children_legal root legal) text e
 
 module _ (root : Read) (legal : IsLegalTree root) (strict : Bool) where
   abbrev pub text_read : Text

@@ -15,3 +15,7 @@ pub mod Names
 pub mod Declared
 pub mod Parts
 pub mod Drafts
+pub mod Named
+pub mod Meets
+pub mod Ordered
+pub mod Valid

@@ -1,5 +1,5 @@
 -- What holds of the parts of a document whose blocks are good.
-use Rattle.std.proofs.Common.{◌≢◌, false, List, [], ◌∷◌, ◌++◌, map}
+use Rattle.std.proofs.Common.{◌≢◌, false, List, [], ◌∷◌, ◌++◌, map, ◌≤◌, length, true, ◌≡◌}
 use Rattle.std.specs.List.{flat_map, AllByRecursion as Each}
 use Rattle.doc_model.specs.declared.field.Field.{Field}
 use Rattle.doc_model.specs.declared.paragraph.Item.{Item, out-Item}
@@ -9,11 +9,11 @@ use Rattle.doc_model.specs.declared.paragraph.Par.{Par, out-Par}
 use Rattle.doc_model.specs.declared.paragraph.What.{What}
 use Rattle.doc_model.specs.declared.paragraph.What.TheOpen.{What-F}
 use Rattle.doc_model.specs.declared.style.Family.TheVariants as family
-use Rattle.doc_model.specs.Chars.{IsLegalText}
+use Rattle.doc_model.specs.Chars.{IsLegal, IsLegalText}
 use Rattle.doc_model.specs.Parts.{all_fields, all_items, block_sections, field_of, items_of, mark_name, mark_of, names_of_field, names_of_paragraph, names_of_section, notes, sections, span_names, what_of}
 use Rattle.doc_model.specs.Reading.{block_paragraphs, body_paragraphs, note_of, notes_of, paragraphs, with_notes}
-use Rattle.doc_model.specs.Valid.{IsField, IsItem, IsNoneOrStyle}
-use Rattle.valid_text.specs.Texts.{AreTextsGood, HoldsNoNote, IsDraftParagraph, IsDraftSection, IsGoodName, IsNoNote, text_names}
+use Rattle.doc_model.specs.Valid.{IsField, IsItem, IsNoneOrStyle, IsNote, IsSection}
+use Rattle.valid_text.specs.Texts.{AreTextsGood, HoldsNoNote, IsDraftParagraph, IsDraftSection, IsGoodName, IsNoNote, text_names, AreTextsValid}
 use Rattle.valid_text.proofs.Good.{Text, IsGoodBlock, IsGoodItem, IsGoodNote, IsGoodPar, IsGoodSection, IsGoodWhat, IsKeptName, IsNone, IsSpan}
 use Rattle.valid_text.proofs.Lists.{each_also, each_append, each_made, each_map}
 
@@ -169,4 +169,19 @@ module _ (text : Text) where
       each_section = each_also (IsGoodSection text) (IsDraftSection text.doc) (λ section good. good.0) (sections text.doc) sections_all;
       span_styles = each_also (IsSpan text) (λ name. (name ≢ []) × IsNoneOrStyle text.doc family.Text name) (λ name good. (good.0, good.1)) (span_names text.doc) spans_all;
       names = names_all;
+    }
+
+    -- where what is kept by its name has one
+    pub texts_valid : text.strict ≡ true → AreTextsGood text.doc → AreTextsValid text.doc
+    texts_valid strict good = record {
+      body = good.body;
+      each_paragraph = good.each_paragraph;
+      each_item = good.each_item;
+      each_note = each_also (IsGoodNote text) IsNote (λ note is. (is.1 strict, holds_none note is)) (notes text.doc) notes_all;
+      each_field = good.each_field;
+      mark_names = each_also IsGoodMark (λ mark. mark_name mark ≢ []) (λ mark is. is.1 strict) (flat_map mark_of (all_items text.doc)) marks_all;
+      each_section = each_also (IsGoodSection text) (IsSection text.doc) (λ section is. record { name = is.1 strict; blocks = is.0.blocks; style = is.0.style; kind = is.0.kind }) (sections text.doc) sections_all;
+      span_styles = good.span_styles;
+      legal_names = each_also IsGoodName (λ name. Each IsLegal name) (λ name is. is.0) (text_names text.doc) good.names;
+      short_names = each_also IsGoodName (λ name. length name ≤ 1024) (λ name is. is.1) (text_names text.doc) good.names;
     }

@@ -13,7 +13,7 @@ use Rattle.doc_model.specs.declared.document.Document.{Document}
 use Rattle.doc_model.specs.Chars.{IsLegal}
 use Rattle.doc_model.specs.Reading.{paragraphs}
 use Rattle.doc_model.specs.Parts.{all_fields, all_items, mark_name, mark_of, names_of_field, names_of_paragraph, names_of_section, notes, SectionHead, sections, span_names, what_of}
-use Rattle.doc_model.specs.Valid.{IsField, IsItem, IsNoneOrGiven, IsNoneOrStyle}
+use Rattle.doc_model.specs.Valid.{IsField, IsItem, IsNoneOrGiven, IsNoneOrStyle, IsNote, IsSection}
 
 -- a list place names a list that is there or none, and its level is 1 at least
 abbrev pub IsPlace : Document → Option ListPos → Type 0
@@ -65,3 +65,16 @@ pub record AreTextsGood (doc : Document) : Type 0 where
   pub each_section : Each (IsDraftSection doc) (sections doc)
   pub span_styles : Each (λ name. (name ≢ []) × IsNoneOrStyle doc family.Text name) (span_names doc)
   pub names : Each IsGoodName (text_names doc)
+
+-- each part of the text is valid
+pub record AreTextsValid (doc : Document) : Type 0 where
+  pub body : doc.body ≢ []
+  pub each_paragraph : Each (IsDraftParagraph doc) (paragraphs doc)
+  pub each_item : Each IsItem (all_items doc)
+  pub each_note : Each IsNote (notes doc)
+  pub each_field : Each (IsField doc) (all_fields doc)
+  pub mark_names : Each (λ mark. mark_name mark ≢ []) (flat_map mark_of (all_items doc))
+  pub each_section : Each (IsSection doc) (sections doc)
+  pub span_styles : Each (λ name. (name ≢ []) × IsNoneOrStyle doc family.Text name) (span_names doc)
+  pub legal_names : Each (λ name. Each IsLegal name) (text_names doc)
+  pub short_names : Each (λ name. length name ≤ 1024) (text_names doc)

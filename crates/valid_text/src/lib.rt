@@ -3,4 +3,4 @@
 
 mod laws;
 
-pub use laws::loaded_texts_are_good;
+pub use laws::{loaded_texts_are_good, loaded_texts_are_valid};
